@@ -98,16 +98,18 @@ fn holds(rt: &LibcRuntime, row: &Row<'_>, holidays: &[u32]) -> io::Result<bool> 
 
 // A row of the table: date, name, whether a holiday, week, day of the calendar, day counted.
 fn row_of(line: &str) -> Option<Row<'_>> {
-    let date = date_on(day(line.split(',').next()?.as_bytes())?)?;
-    let name = line.split(',').nth(1)?;
-    let holiday = line.split(',').nth(2)? == "yes";
-    let week = small(line.split(',').nth(3)?)?;
-    let day = small(line.split(',').nth(5)?)?;
+    let mut fields = [""; 6];
+    for (place, text) in line.split(',').enumerate() {
+        if place < 6 {
+            fields[place] = text;
+        }
+    }
+    let [date, name, holiday, week, _, counted] = fields;
     Some(Row {
-        date,
+        date: date_on(day(date.as_bytes())?)?,
         name,
-        holiday,
-        known: Place { week, day },
+        holiday: holiday == "yes",
+        known: Place { week: small(week)?, day: small(counted)? },
     })
 }
 
