@@ -8,9 +8,10 @@ use native.Mathlib.Nat.{mod-add-mod}
 use native.Mathlib.Omega.{arith}
 use lib.Dec.{eqb, leb, ltb}
 use borrow.Author.Needs.{needs}
-use Rattle.std.specs.declared.option.Option.the-variants.{Some, None}
+use Rattle.std.specs.declared.option.Option.the-variants.{Some}
 use Rattle.std.proofs.shelf.Tests.{cases-lt, cases-bool, leb-true, le-leb, lt-leb, and-parts, and-from, cond-true, cond-false}
 use Rattle.std.proofs.shelf.Ways.{tells}
+use Rattle.lemmas.proofs.Options.{some-when}
 use Rattle.calendar.specs.declared.CivilDate.{CivilDate}
 use Rattle.calendar.specs.Dates.{last-date, leap, new-year, days-before-month, month-length, begun, between, in-calendar, date-of, civil-of, year-of, day-of-year, month-of, day-of-month}
 use Rattle.calendar.specs.Places.{weekday, week-of, since-monday, holiday, bridging, day-counted}
@@ -81,16 +82,12 @@ month-end y m low up =
     (λ (ge : 12 ≤ m). let e : 12 ≡ m = omega arith in subst (λ (v : ℕ). days-before-month y v + month-length y v ≤ year-length y) e (omega (arith, december y)))
     (cases-lt m 12)
 
-when-some : (b : Bool) (v x : ℕ) → cond b (Some v) None ≡ Some x → (b ≡ true) × (v ≡ x)
-when-some true v x e = (refl, cc)
-when-some false v x e = let z : _≡_ {A = ℕ} 0 1 = cc in absurd (omega arith)
-
 within : (a x b : ℕ) → between a x b ≡ true → (a ≤ x) × (x ≤ b)
 within a x b e = let p = and-parts (leb a x) (leb x b) e in (leb-true a x (p .0), leb-true x b (p .1))
 
 pub only : (c : CivilDate) (x : ℕ) → date-of c ≡ Some x → (x ≤ last-date) × (civil-of x ≡ c)
 only c x e =
-    let w = when-some (in-calendar c) _ x e in
+    let w = some-when (in-calendar c) _ x (sym e) in
     let p = and-parts (between 2001 (c .year) 2099 && between 1 (c .month) 12) _ (w .0) in
     let q = and-parts (between 2001 (c .year) 2099) _ (p .0) in
     let y = within 2001 (c .year) 2099 (q .0) in

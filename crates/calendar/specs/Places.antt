@@ -41,6 +41,10 @@ bridging hs x = (eqb (weekday x) 1 && summer-holiday hs (x + 1)) || (eqb (weekda
 unfoldable pub day-counted : List ℕ → ℕ → ℕ
 day-counted hs x = cond (holiday hs x) 7 (cond (bridging hs x) 6 (weekday x))
 
+-- The place of a date.
+abbrev pub place-at : List ℕ → ℕ → Place
+place-at hs x = record { week = week-of x; day = day-counted hs x }
+
 -- A date past the last one has no place.
 abbrev pub placeOf : List ℕ → ℕ → Option Place
-placeOf hs x = cond (leb x last-date) (Some (record { week = week-of x; day = day-counted hs x })) None
+placeOf hs x = cond (leb x last-date) (Some (place-at hs x)) None

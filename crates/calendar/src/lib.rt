@@ -232,22 +232,16 @@ pub fn place_of(date: u32, holidays: &[u32]) -> Option<Place>
 }
 
 // Every date has one year, month and day, and they have that date.
-pub fn dates_and_days_agree() -> u8
+pub fn dates_and_days_agree()
     ensures { λ _. ⌜ One-calendar ⌝ }
-{
-    0
-}
+{}
 
 // The days before the months grow by the months' lengths, up to the whole year.
-pub fn months_fill_the_year() -> u8
+pub fn months_fill_the_year()
     ensures { λ _. ⌜ Months ⌝ }
-{
-    0
-}
+{}
 
 // Weeks are numbered 1 to 52, days 1 to 7, and a week begins on 1 January or on a Monday.
-pub fn weeks_follow_the_calendar() -> u8
+pub fn weeks_follow_the_calendar()
     ensures { λ _. ⌜ Weeks ⌝ }
-{
-    0
-}
+{}

@@ -49,8 +49,6 @@ impl Profile {
 }
 
 // A sub-profile is one of 0 to 7, and belongs to one dial of one profile.
-pub fn sub_profiles_stand_apart() -> u8
+pub fn sub_profiles_stand_apart()
     ensures { λ _. ⌜ Sub-profiles-apart ⌝ }
-{
-    0
-}
+{}

@@ -1,11 +1,12 @@
 -- How the energy of a span is shared over its half-hours.
 -- E is the energy in Wh; each half-hour has a weight; W is the sum of the weights before a half-hour, S that of all.
 use mathlib.Core.Path.{_≡_}
-use mathlib.Core.Bool.{Bool, true, false, cond, _&&_}
-use mathlib.Core.List.{List, [], _∷_}
+use mathlib.Core.Bool.{Bool, cond, _&&_}
+use mathlib.Core.List.{List}
 use Prim.Native.Nat.{ℕ, zero, suc, _+_, _-_, _*_, _/_, _<_, _≤_}
 use lib.Dec.{leb, ltb}
 use lib.ListN.{length, getD}
+use Rattle.lemmas.specs.Every.{every}
 use Rattle.std.specs.declared.option.Option.{Option}
 use Rattle.std.specs.declared.option.Option.the-variants.{None, Some}
 
@@ -29,14 +30,13 @@ weighed ws t = getD ws t 0
 abbrev pub total : List ℕ → ℕ
 total ws = before (weighed ws) (length ws)
 
--- No weight is over 1,000,000.
-abbrev pub light : List ℕ → Bool
-light [] = true
-light (w ∷ ws) = leb w 1000000 && light ws
+-- A weight is at most 1,000,000.
+abbrev pub light : ℕ → Bool
+light w = leb w 1000000
 
 -- At most 1,680 half-hours, each with a weight of at most 1,000,000.
 abbrev pub weighable : List ℕ → Bool
-weighable ws = leb (length ws) 1680 && light ws
+weighable ws = leb (length ws) 1680 && every light ws
 
 -- The weights are not all 0 and add to at most what 1,680 half-hours can, and the energy is at most 999,999,999 Wh.
 abbrev pub divisible : ℕ → ℕ → Bool

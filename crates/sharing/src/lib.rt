@@ -115,15 +115,11 @@ pub fn share(energy: u32, weights: &[u32], figures: &mut [u32]) -> Option<u64>
 }
 
 // The running share starts at 0, ends at the energy, never falls, and lies less than 1 Wh below the exact share.
-pub fn running_share_keeps_its_laws() -> u8
+pub fn running_share_keeps_its_laws()
     ensures { λ _. ⌜ Running-laws ⌝ }
-{
-    0
-}
+{}
 
 // Of any span whose weights are not all 0 the figures add up to its energy and follow the exact share.
-pub fn every_span_is_shared_fairly() -> u8
+pub fn every_span_is_shared_fairly()
     ensures { λ _. ⌜ Every-span-fair ⌝ }
-{
-    0
-}
+{}

@@ -1,6 +1,6 @@
 -- One digit more of a number. Assumes nothing.
 use mathlib.Core.Path.{_≡_, sym, _∙_, ap}
-use mathlib.Core.Bool.{true, false, _&&_}
+use mathlib.Core.Bool.{true}
 use mathlib.Core.List.{List}
 use Prim.Native.Nat.{ℕ, suc, _+_, _-_, _*_, _^_, _<_, _≤_}
 use native.Mathlib.Nat.{pow-succ', pow-le-pow-right}
@@ -9,10 +9,7 @@ use native.Mathlib.Omega.{arith}
 use lib.ListN.{length, getD, drop}
 use Rattle.std.proofs.shelf.Lists.{at-drop-more}
 use Rattle.std.proofs.shelf.Tests.{and-parts, leb-true}
-use Rattle.text_fields.specs.Fields.{digit, all-digits, value-after}
-
-pub digits-next : (bs : List ℕ) (i : ℕ) → i < length bs → all-digits (drop i bs) ≡ (digit (getD bs i 0) && all-digits (drop (i + 1) bs))
-digits-next bs i h = at-drop-more all-digits bs i 0 h
+use Rattle.text_fields.specs.Fields.{digit, value-after}
 
 pub value-next : (bs : List ℕ) (i n : ℕ) → i < length bs → value-after n (drop i bs) ≡ value-after (n * 10 + (getD bs i 0 - 48)) (drop (i + 1) bs)
 value-next bs i n h = at-drop-more (value-after n) bs i 0 h

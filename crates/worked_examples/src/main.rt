@@ -109,7 +109,10 @@ fn row_of(line: &str) -> Option<Row<'_>> {
         date: date_on(day(date.as_bytes())?)?,
         name,
         holiday: holiday == "yes",
-        known: Place { week: small(week)?, day: small(counted)? },
+        known: Place {
+            week: small(week)?,
+            day: small(counted)?,
+        },
     })
 }
 

@@ -1,24 +1,17 @@
 use mathlib.Core.Path.{_≡_, refl, sym, _∙_, ap}
 use mathlib.Core.Bool.{Bool, true, false, cond, _&&_}
 use mathlib.Core.List.{List}
-use mathlib.Core.Logic.{_≢_}
 use Prim.Native.Nat.{ℕ, _+_, _-_, _<_, _≤_, min}
 use native.Mathlib.Omega.{arith}
-use borrow.Author.Needs.{needs}
-use borrow.Author.Count.{below-more}
 use lib.ListN.{length, getD}
-use lib.Seq.{getD-set-same, getD-set-other}
-use Rattle.std.specs.declared.option.Option.the-variants.{Some, None}
+use Rattle.std.specs.declared.option.Option.the-variants.{Some}
+use Rattle.lemmas.proofs.Options.{some-when}
+use Rattle.lemmas.proofs.Writes.{set-more, set-past}
 use Rattle.sharing.specs.Shares.{before, running-share, figure, weighed, total, weighable, divisible}
 use Rattle.std.proofs.shelf.Tests.{le-leb, and-from, cond-true}
 use Rattle.sharing.proofs.Sums.{before-none, before-more, before-le}
 use Rattle.sharing.proofs.Fairness.{running-laws, fair, figure-is}
 use Rattle.sharing.proofs.share.Needs as need
-
--- what the sum answered
-sum-is : (b : Bool) (v s : ℕ) → Some s ≡ cond b (Some v) None → (b ≡ true) × (s ≡ v)
-sum-is true v s e = (refl, cc)
-sum-is false v s e = let z : _≡_ {A = ℕ} 0 1 = cc in absurd (omega arith)
 
 -- one half-hour more lies behind
 behind-next : (w : ℕ → ℕ) (n t : ℕ) → t < n → min (before w t + w t) (before w n) ≡ before w (t + 1)
@@ -34,7 +27,7 @@ pub loop-t-again : need.loop-t-again
 loop-t-again c =
     let ws = c .args .weights .now in let w = weighed ws in let n = length ws in let t = c .loop-t .t in
     let lt : t < length (c .loop-t .figures) = omega (arith, c .loop-t .kept .figures) in
-    let all = sum-is (weighable ws) (total ws) (c .in-Some .all) (c .in-Some .ensures tt) .1 in
+    let all = some-when (weighable ws) (total ws) (c .in-Some .all) (c .in-Some .ensures tt) .1 in
     let f = c .next-figure .ensures in
     let next = behind-next w n t (omega arith) in
     let energy-is = c .loop-t .inv .0 in
@@ -45,15 +38,15 @@ loop-t-again c =
       f .same .0 ∙ energy-is,
       f .same .1 ∙ all-is,
       moved,
-      below-more _ _ (λ k h. let ne : k ≢ t = omega arith in rw getD-set-other (c .loop-t .inv .3 k h)) (rw getD-set-same here),
-      (λ k h. let ne : k ≢ t = omega arith in rw getD-set-other (c .loop-t .inv .4 k (omega arith))),
+      set-more (figure (c .args .energy) w n) (c .loop-t .figures) 0 (c .next-figure .result) t lt here (c .loop-t .inv .3),
+      (λ k h. set-past (c .loop-t .figures) 0 (c .next-figure .result) t k h ∙ c .loop-t .inv .4 k (omega arith)),
     )
 
 pub returns : need.returns
 returns c =
     let ws = c .args .weights .now in let t = c .loop-t .t in
     let end : t ≡ length ws = omega arith in
-    let sum = sum-is (weighable ws) (total ws) (c .in-Some .all) (c .in-Some .ensures tt) in
+    let sum = some-when (weighable ws) (total ws) (c .in-Some .all) (c .in-Some .ensures tt) in
     let o = c .in-Some-over .ensures tt in
     let some : 0 < before (weighed ws) (length ws) = omega (arith, c .in-Some-over .sharing .some, o .2, sum .1) in
     let whole : divisible (c .args .energy) (total ws) ≡ true = ap (divisible (c .args .energy)) (sym (sum .1)) ∙ o .0 in

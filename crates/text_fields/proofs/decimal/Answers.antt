@@ -7,16 +7,18 @@ use lib.Dec.{leb}
 use lib.ListN.{length, getD, drop}
 use Rattle.std.specs.declared.option.Option.the-variants.{Some, None}
 use Rattle.std.proofs.shelf.Lists.{at-drop-all}
-use Rattle.std.proofs.shelf.Tests.{and-from, and-left, and-right, le-leb, eqb-false, cond-true, cond-false}
-use Rattle.text_fields.specs.Fields.{digit, all-digits, value-after, decimalOf}
-use Rattle.text_fields.proofs.Digits.{digits-next, value-next, digit-bound, power-next, power-under}
+use Rattle.std.proofs.shelf.Tests.{and-from, and-right, le-leb, eqb-false, cond-true, cond-false}
+use Rattle.lemmas.specs.Every.{every}
+use Rattle.lemmas.proofs.Tests.{every-more, every-fails, every-ends}
+use Rattle.text_fields.specs.Fields.{digit, value-after}
+use Rattle.text_fields.proofs.Digits.{value-next, digit-bound, power-next, power-under}
 use Rattle.text_fields.proofs.decimal.Needs as need
 
 pub returns-then-not-is-digit : need.returns-then-not-is-digit
 returns-then-not-is-digit c =
     let bs = c .args .text .now in let i = c .loop-byte .byte-index in
     let none : digit (getD bs i 0) ≡ false = sym (c .if-not-is-digit .ensures tt) in
-    let all : all-digits bs ≡ false = c .loop-byte .inv .1 ∙ (digits-next bs i (omega arith) ∙ and-left _ _ none) in
+    let all : every digit bs ≡ false = every-fails digit bs i (c .loop-byte .inv .1) 0 (omega arith) none in
     record { value = sym (cond-false _ _ _ (and-right _ _ all)); bound = tt }
 
 pub mul-value : need.mul-value
@@ -35,7 +37,7 @@ loop-byte-again c =
     let b = digit-bound (getD bs i 0) d in
     let p = power-next i in (
       c .loop-byte .inv .0 ∙ value-next bs i (c .loop-byte .value) (omega arith),
-      c .loop-byte .inv .1 ∙ (digits-next bs i (omega arith) ∙ ap (λ x. x && all-digits (drop (i + 1) bs)) d),
+      every-more digit bs i (c .loop-byte .inv .1) 0 (omega arith) d,
       omega arith,
     )
 
@@ -44,7 +46,7 @@ returns c =
     let bs = c .args .text .now in let i = c .loop-byte .byte-index in
     let end : i ≡ length bs = omega arith in
     let v = c .loop-byte .inv .0 ∙ at-drop-all (value-after (c .loop-byte .value)) bs i (omega arith) in
-    let d = c .loop-byte .inv .1 ∙ at-drop-all all-digits bs i (omega arith) in
+    let d = every-ends digit bs i (c .loop-byte .inv .1) (omega arith) in
     let some = eqb-false (length bs) 0 (sym (c .if-is-empty .ensures tt)) in
     let low = le-leb 1 (length bs) (omega (arith, some)) in
     let up = le-leb (length bs) 9 (omega arith) in

@@ -1,0 +1,1 @@
+// No code: lemmas that the proofs of several crates share, in proofs/.
