@@ -43,18 +43,19 @@ pub impl Amount for Split as SplitAmount {
     }
 
     fn of(wh: u32, dial: u8) -> Split {
+        let pieces = 1;
         let wh = wh as i64;
         if dial == 1 {
             Split {
                 first: wh,
                 second: 0,
-                pieces: 1,
+                pieces,
             }
         } else {
             Split {
                 first: 0,
                 second: wh,
-                pieces: 1,
+                pieces,
             }
         }
     }

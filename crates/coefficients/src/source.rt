@@ -84,7 +84,7 @@ pub impl ProfileSource for Coefficients as CoefficientSource {
     }
 
     fn weight(&self, sub_profile: u8, half_hour: usize) -> Option<u32> {
-        if sub_profile > 7 || half_hour >= 48 * self.days {
+        if sub_profile > 7 || half_hour >= self.covered() {
             return None;
         }
         let place = self.places[half_hour / 48];

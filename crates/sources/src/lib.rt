@@ -52,7 +52,7 @@ pub impl ProfileSource for Flat as FlatSource {
     }
 
     fn weight(&self, sub_profile: u8, half_hour: usize) -> Option<u32> {
-        if sub_profile > 7 || half_hour >= self.half_hours {
+        if sub_profile > 7 || half_hour >= self.covered() {
             return None;
         }
         Some(10_000)
