@@ -1,21 +1,56 @@
-// curve: reads two readings of one dial from standard input and prints the energy of each half-hour between them.
+// curve: reads two readings of one dial from standard input and prints the energy of each half-hour between them. Without
+// arguments every half-hour weighs the same; with a coefficient file, a sub-profile and holidays it shares by those.
+use arguments::Weighting;
 use calendar::CivilDateDisplay;
 use calendar::civil_date;
+use coefficients::Coefficients;
+use coefficients::source::CoefficientSource;
 use readings::Problem;
 use readings::ProblemDisplay;
 use readings::Reading;
 use readings::spans::Span;
 use readings::total;
+use sources::Flat;
+use sources::FlatSource;
 use std::error::AnyError;
+
+mod arguments;
 
 fn main(rt: LibcRuntime) -> Result<(), AnyError> {
     rt.report(run(&rt))
 }
 
 fn run(rt: &LibcRuntime) -> Result<(), AnyError> {
+    let weighting = arguments::read(rt)?;
     let span = read_span(rt)?;
-    let curve = span.even_curve(rt.alloc())?;
+    let Some(curve) = curve_of(rt, &span, &weighting)? else {
+        return Err("all weights of the sub-profile are 0 in these days, so nothing can be shared by them".into());
+    };
     print_curve(rt, span.first_date(), curve.as_slice())
+}
+
+fn curve_of(
+    rt: &LibcRuntime,
+    span: &Span,
+    weighting: &Weighting,
+) -> Result<Option<Vec<u32>>, AnyError> {
+    let half_hours = span.half_hours() as usize;
+    match weighting {
+        Weighting::Even => Ok(span.curve(rt.alloc(), &Flat::over(half_hours), 0)?),
+        Weighting::ByCoefficients {
+            list,
+            sub_profile,
+            holidays,
+        } => {
+            let source = Coefficients::over(
+                list.as_slice(),
+                span.first_date(),
+                half_hours / 48,
+                holidays.as_slice(),
+            );
+            Ok(span.curve(rt.alloc(), &source, *sub_profile)?)
+        }
+    }
 }
 
 // The span between the two readings of the input. Empty lines and lines that begin with # are passed over.

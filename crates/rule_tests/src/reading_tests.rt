@@ -6,6 +6,8 @@ use readings::ReadingDebug;
 use readings::ReadingPartialEq;
 use readings::spans::Span;
 use readings::total;
+use sources::Flat;
+use sources::FlatSource;
 use std::test::*;
 
 #[test]
@@ -79,7 +81,7 @@ fn pairs() -> Result<(), Fail> {
 }
 
 #[test]
-fn even_curve(rt: LibcRuntime) -> Result<(), Fail> {
+fn curves(rt: LibcRuntime) -> Result<(), Fail> {
     let first = Reading { date: 10, index: 0 };
     let Ok(span) = Span::between(
         first,
@@ -90,7 +92,14 @@ fn even_curve(rt: LibcRuntime) -> Result<(), Fail> {
     ) else {
         return Err(Fail::new("no span"));
     };
-    let curve = span.even_curve(rt.alloc())?;
+    check(span.curve(rt.alloc(), &Flat::over(47), 0)?.is_none()).note(
+        "too few half-hours covered",
+    )?;
+    check(span.curve(rt.alloc(), &Flat::over(49), 0)?.is_none()).note("too many")?;
+    check(span.curve(rt.alloc(), &Flat::over(48), 8)?.is_none()).note("no such sub-profile")?;
+    let Some(curve) = span.curve(rt.alloc(), &Flat::over(48), 7)? else {
+        return Err(Fail::new("no curve"));
+    };
     check_eq(curve.len(), 48)?;
     check_eq(total(curve.as_slice()), 50)?;
     // 50·24 div 48 is 25, 50·25 div 48 is 26: half-hour 24 gets 1, half-hour 47 gets 2

@@ -1,6 +1,6 @@
 // The weights of the temperature layer.
 ghost use mathlib.Core.Path.{_≡_};
-ghost use Prim.Native.Nat.{ℕ, _≤_};
+ghost use Prim.Native.Nat.{ℕ, _<_, _≤_};
 ghost use lib.IntN.{pos, negsuc, _*ℤ_};
 ghost use lib.Signed.{_≤ℤ_};
 ghost use lib.ListN.{length, replicate};
@@ -47,6 +47,26 @@ fn scaled_by(weight: u32, factor: i64) -> u32
     }
     let rounded = (weight as u64 * factor as u64 + 50_000) / 100_000;
     rounded.min(1_000_000) as u32
+}
+
+impl Temperatures {
+    // A weight of a half-hour, adjusted.
+    fn adjust(&self, weight: u32, sub_profile: u8, half_hour: usize) -> u32
+        requires weight { ⌜ weight ≤ 1000000 ⌝ }
+        requires sub_profile { ⌜ «sub_profile» ≤ 7 ⌝ }
+        requires half_hour { ⌜ «half_hour» < 1680 ⌝ }
+        ensures value { λ r. ⌜ r ≡ adjusted (now (self .entry)) (λ _ _. weight) «sub_profile» «half_hour» ⌝ }
+        ensures bound { λ r. ⌜ r ≤ 1000000 ⌝ }
+    {
+        let gradient = self.gradients[sub_profile as usize];
+        let factor = factor_of(
+            gradient,
+            self.threshold,
+            self.normal[half_hour],
+            self.measured[half_hour],
+        );
+        scaled_by(weight, factor)
+    }
 }
 
 impl<S> TemperatureLayer<S> {
@@ -99,14 +119,6 @@ pub impl<S: ProfileSource> ProfileSource for TemperatureLayer<S> as TemperatureS
         let Some(weight) = self.below.weight(sub_profile, half_hour) else {
             return None;
         };
-        let held = &self.held;
-        let gradient = held.gradients[sub_profile as usize];
-        let factor = factor_of(
-            gradient,
-            held.threshold,
-            held.normal[half_hour],
-            held.measured[half_hour],
-        );
-        Some(scaled_by(weight, factor))
+        Some(self.held.adjust(weight, sub_profile, half_hour))
     }
 }
