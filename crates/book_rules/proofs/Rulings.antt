@@ -322,3 +322,12 @@ module _ (n : ℕ) (u : Setup) (m : Contents) (w : Within n m) where
 
   pub rules : (c : Call) → Rules u m c (first (tests n u m c))
   rules c = upper (Applies u m c) 0 (tests n u m c) refl (sound c) (complete c)
+
+-- one day more of a dial
+pub crossed-none : (f : ℕ → Option Index) (d v : ℕ) → crossed f d v 0 ≡ false
+unfolding crossed
+crossed-none f d v = refl
+
+pub crossed-more : (f : ℕ → Option Index) (d v e : ℕ) → crossed f d v (e + 1) ≡ (crossed f d v e || against d v e (f e))
+unfolding crossed
+crossed-more f d v e = rw add-one refl
