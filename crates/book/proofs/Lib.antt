@@ -1,3 +1,5 @@
 pub mod Firsts
+pub mod Replays
+pub mod Services
 pub mod Storage
 pub mod Acting

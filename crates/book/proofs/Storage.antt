@@ -3,7 +3,7 @@ use mathlib.Core.Path.{_≡_, refl, sym, ap, subst, _∙_}
 use mathlib.Core.Bool.{Bool, true, false, cond, _&&_}
 use mathlib.Core.List.{List, [], _∷_, _++_}
 use mathlib.Core.Logic.{_⊎_, ⊎-elim, _≢_}
-use Prim.Native.Nat.{ℕ, _+_, _<_, _≤_}
+use Prim.Native.Nat.{ℕ, zero, suc, _+_, _<_, _≤_}
 use native.Mathlib.Omega.{arith}
 use lib.Dec.{eqb}
 use lib.ListN.{length, getD, set, replicate}
@@ -19,7 +19,7 @@ use Rattle.book_rules.specs.Laws.{Within}
 use Rattle.book.specs.declared.by_day.ByDay.{ByDay}
 use Rattle.book.specs.declared.site.Site.{Site}
 use Rattle.book.specs.Sites.{on, starting, standing-index, No-entries}
-use Rattle.book.specs.Books.{no-days, no-site, held}
+use Rattle.book.specs.Books.{no-days, no-site, held, All-empty}
 
 -- a table of nothing has nothing
 pub none-on : {X : Type 0} (x : ByDay X) → x .days ≡ replicate 36 None → (d : ℕ) → on x d ≡ None
@@ -64,3 +64,13 @@ within xs i j = record { situations = λ s b h. past (getD xs s no-site .situati
 -- what is read of the list is the site that the book holds
 pub read : (xs : List Site) (s : ℕ) (x : Site) → s < length xs → x ≡ getD xs s x → x ≡ getD xs s no-site
 read xs s x lt v = getD-read xs s x lt v no-site
+
+-- a list of nothing is of sites that keep nothing, and so is one site more that keeps nothing
+pub all-empty : All-empty []
+all-empty s = nothing-there
+
+pub one-more-empty : (xs : List Site) (x : Site) → All-empty xs → No-entries x → All-empty (xs ++ x ∷ [])
+one-more-empty [] x h e zero = e
+one-more-empty [] x h e (suc s) = h s
+one-more-empty (y ∷ xs) x h e zero = h zero
+one-more-empty (y ∷ xs) x h e (suc s) = one-more-empty xs x (λ z. h (suc z)) e s

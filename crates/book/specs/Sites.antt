@@ -1,8 +1,8 @@
 -- What is kept of a site, as functions of the day.
 use mathlib.Core.Path.{_≡_}
-use mathlib.Core.Bool.{Bool, cond, _&&_}
+use mathlib.Core.Bool.{Bool, true, false, cond, _&&_}
 use Prim.Native.Nat.{ℕ, _<_}
-use lib.Dec.{eqb}
+use lib.Dec.{eqb, leb, ltb}
 use lib.ListN.{getD}
 use Rattle.std.specs.declared.option.Option.{Option}
 use Rattle.std.specs.declared.option.Option.the-variants.{Some, None}
@@ -17,6 +17,7 @@ use Rattle.book_rules.specs.Telling.{begun, ended-on}
 use Rattle.book_rules.specs.Tests.{standing-by}
 use Rattle.book.specs.declared.by_day.ByDay.{ByDay}
 use Rattle.book.specs.declared.site.Site.{Site}
+use Rattle.book.specs.declared.questions.Service.{Service}
 
 abbrev pub on : {X : Type 0} → ByDay X → ℕ → Option X
 on x d = getD (x .days) d None
@@ -93,3 +94,20 @@ abbrev pub Start-under : ℕ → Standing → Type 0
 Start-under n Never = Unit {0}
 Start-under n (Running b) = b < n
 Start-under n (Ended b e) = b < n
+
+-- A situation covers its start day and all days before its end.
+abbrev pub not-ended : ℕ → Option ℕ → Bool
+not-ended d None = true
+not-ended d (Some e) = ltb d e
+
+abbrev pub covering : ℕ → Situation → ℕ → Bool
+covering b x d = leb b d && not-ended d (x .end)
+
+abbrev pub service-of : ℕ → Option Situation → ℕ → Option Service
+service-of b None d = None
+service-of b (Some x) d = cond (covering b x d) (Some (record { start = b; situation = x })) None
+
+-- The situation that covers a day, with its start; none if none does.
+abbrev pub Serving : (ℕ → Option Situation) → ℕ → Option Service → Type 0
+Serving f d (Some v) = (f (v .start) ≡ Some (v .situation)) × (covering (v .start) (v .situation) d ≡ true)
+Serving f d None = (b : ℕ) (x : Situation) → f b ≡ Some x → covering b x d ≡ false

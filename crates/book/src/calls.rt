@@ -1,12 +1,10 @@
 // The calls.
 ghost use mathlib.Core.Path.{_≡_};
-ghost use mathlib.Core.List.{List, [], _∷_, _++_};
 ghost use Rattle.std.specs.declared.option.Option.the-variants.{None};
-ghost use Rattle.book_rules.specs.declared.Call.{Call};
 ghost use Rattle.book_rules.specs.Refusing.{Rules};
-ghost use Rattle.book_rules.specs.Telling.{Acts, Step, Told};
+ghost use Rattle.book_rules.specs.Telling.{Acts};
 ghost use Rattle.book_rules.specs.Tests.{first, tests};
-ghost use Rattle.book.specs.Books.{setup, contents, ruled, answered};
+ghost use Rattle.book.specs.Books.{setup, contents, ruled, Made};
 use book_rules::Call;
 use crate::store::Book;
 use refusals::Refusal;
@@ -51,9 +49,7 @@ impl Book {
 
     // Makes a call: the upper refusal that applies, and then all stays as it was, or what the call does.
     pub fn make(&mut self, call: Call) -> Result<(), Refusal>
-        ensures same { λ _. ⌜ setup (now (self .exit)) ≡ setup (now (self .entry)) ⌝ }
-        ensures step { λ r. ⌜ Step (setup (now (self .entry))) (contents (now (self .entry))) call (answered r) (contents (now (self .exit))) ⌝ }
-        ensures told { λ r. ⌜ ((h : List Call) → Told (setup (now (self .entry))) h (contents (now (self .entry))) → Told (setup (now (self .exit))) (h ++ call ∷ []) (contents (now (self .exit)))) ⌝ }
+        ensures { λ r. ⌜ Made (now (self .entry)) call r (now (self .exit)) ⌝ }
     {
         match self.ruling(call) {
             Some(refusal) => Err(refusal),
