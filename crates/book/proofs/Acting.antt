@@ -41,8 +41,8 @@ module _ (xs : List Site) (s : ℕ) (x y : Site) (lt : s < length xs) (v : x ≡
   at-keys f p new h a =
       ⊎-elim {C = f (getD (set xs s y) a no-site) ≡ cond (eqb s a && p) new (f (getD xs a no-site))}
       (λ (e : a ≡ s).
-        subst (λ (z : ℕ). f (getD (set xs s y) z no-site) ≡ cond (eqb s z && p) new (f (getD xs z no-site))) (sym e)
-        (ap f here ∙ (h ∙ (ap (λ (w : Site). cond p new (f w)) v ∙ ap (λ q. cond (q && p) new (f (getD xs s no-site))) (sym (eq-eqb s s refl))))))
+      subst (λ (z : ℕ). f (getD (set xs s y) z no-site) ≡ cond (eqb s z && p) new (f (getD xs z no-site))) (sym e)
+      (ap f here ∙ (h ∙ (ap (λ (w : Site). cond p new (f w)) v ∙ ap (λ q. cond (q && p) new (f (getD xs s no-site))) (sym (eq-eqb s s refl))))))
       (λ (e : a ≡ s → ⊥). ap f (elsewhere a e) ∙ sym (cond-false _ _ _ (and-left _ p (ne-eqb s a (λ q. e (sym q))))))
       (cases-eq a s)
 
@@ -50,11 +50,11 @@ module _ (xs : List Site) (s : ℕ) (x y : Site) (lt : s < length xs) (v : x ≡
   at-two-keys f p q new old h a =
       ⊎-elim {C = f (getD (set xs s y) a no-site) ≡ cond (eqb s a && p) new (cond (eqb s a && q) old (f (getD xs a no-site)))}
       (λ (e : a ≡ s).
-        subst (λ (z : ℕ). f (getD (set xs s y) z no-site) ≡ cond (eqb s z && p) new (cond (eqb s z && q) old (f (getD xs z no-site)))) (sym e)
-        (ap f here ∙ (h ∙ (ap (λ (w : Site). cond p new (cond q old (f w))) v ∙ ap (λ r. cond (r && p) new (cond (r && q) old (f (getD xs s no-site)))) (sym (eq-eqb s s refl))))))
+      subst (λ (z : ℕ). f (getD (set xs s y) z no-site) ≡ cond (eqb s z && p) new (cond (eqb s z && q) old (f (getD xs z no-site)))) (sym e)
+      (ap f here ∙ (h ∙ (ap (λ (w : Site). cond p new (cond q old (f w))) v ∙ ap (λ r. cond (r && p) new (cond (r && q) old (f (getD xs s no-site)))) (sym (eq-eqb s s refl))))))
       (λ (e : a ≡ s → ⊥).
-        let other = ne-eqb s a (λ r. e (sym r)) in
-        ap f (elsewhere a e) ∙ sym (cond-false _ _ _ (and-left _ p other) ∙ cond-false _ _ _ (and-left _ q other)))
+      let other = ne-eqb s a (λ r. e (sym r)) in
+      ap f (elsewhere a e) ∙ sym (cond-false _ _ _ (and-left _ p other) ∙ cond-false _ _ _ (and-left _ q other)))
       (cases-eq a s)
 
   kept : {X : Type 0} (f : Site → X) → f y ≡ f x → (a : ℕ) → f (getD (set xs s y) a no-site) ≡ f (getD xs a no-site)
@@ -98,27 +98,28 @@ module _ (xs : List Site) (s : ℕ) (x y : Site) (lt : s < length xs) (v : x ≡
   pub act-end : (u : Setup) (d : ℕ) → ((k : ℕ) → Applies u (held xs i j) (End s d) k → ⊥) → Serves x y (End s d) → Same-indexes-of x y → Acts (held xs i j) (held (set xs s y) i j) (End s d)
   act-end u d none h k = by (standing-by (starting x) 36) stands h
     where
-    at-start : (b : ℕ) (x₀ : Situation) → Last (starting x) b x₀ → ((e : ℕ) → starting y e ≡ cond (eqb b e) (closed d (starting x b)) (starting x e)) → Acts (held xs i j) (held (set xs s y) i j) (End s d)
-    at-start b x₀ l g = ends (last-held b x₀ l) (situated b (ended-on d x₀) i (λ e. g e ∙ ap (λ (o : Option Situation). cond (eqb b e) (closed d o) (starting x e)) (l .starts))) refl (indexes-kept i k)
-    by : (z : Standing) → Stands (starting x) z → ((e : ℕ) → starting y e ≡ after z (End s d) (starting x) e) → Acts (held xs i j) (held (set xs s y) i j) (End s d)
-    by z (never p) g = absurd (none 8 (end-never (as-held Never (never p))))
-    by z (running {b} {x = x₀} l e) g = at-start b x₀ l g
-    by z (ended {b} {x = x₀} l e) g = at-start b x₀ l g
+      at-start : (b : ℕ) (x₀ : Situation) → Last (starting x) b x₀ → ((e : ℕ) → starting y e ≡ cond (eqb b e) (closed d (starting x b)) (starting x e)) → Acts (held xs i j) (held (set xs s y) i j) (End s d)
+      at-start b x₀ l g = ends (last-held b x₀ l) (situated b (ended-on d x₀) i (λ e. g e ∙ ap (λ (o : Option Situation). cond (eqb b e) (closed d o) (starting x e)) (l .starts))) refl (indexes-kept i k)
+
+      by : (z : Standing) → Stands (starting x) z → ((e : ℕ) → starting y e ≡ after z (End s d) (starting x) e) → Acts (held xs i j) (held (set xs s y) i j) (End s d)
+      by z (never p) g = absurd (none 8 (end-never (as-held Never (never p))))
+      by z (running {b} {x = x₀} l e) g = at-start b x₀ l g
+      by z (ended {b} {x = x₀} l e) g = at-start b x₀ l g
 
   pub act-modify : (u : Setup) (d : ℕ) (t : Terms) → ((k : ℕ) → Applies u (held xs i j) (Modify s d t) k → ⊥) → Serves x y (Modify s d t) → Same-indexes-of x y → Acts (held xs i j) (held (set xs s y) (i + 1) j) (Modify s d t)
   act-modify u d t none h k = by (standing-by (starting x) 36) stands h
     where
-    by : (z : Standing) → Stands (starting x) z → ((e : ℕ) → starting y e ≡ after z (Modify s d t) (starting x) e) → Acts (held xs i j) (held (set xs s y) (i + 1) j) (Modify s d t)
-    by z (never p) g = absurd (none 8 (modify-never (as-held Never (never p))))
-    by z (running {b} {x = x₀} l e) g =
-        modifies (last-held b x₀ l) (λ a c. at-two-keys (λ (w : Site). starting w c) (eqb d c) (eqb b c) (Some (begun t)) (Some (ended-on d x₀)) (g c ∙ ap (λ (o : Option Situation). cond (eqb d c) (Some (begun t)) (cond (eqb b c) (closed d o) (starting x c))) (l .starts)) a) refl (indexes-kept (i + 1) k)
-    by z (ended {b} {e} {x = x₀} l q) g = absurd (none 8 (modify-ended {b = b} {e = e} (as-held (Ended b e) (ended l q))))
+      by : (z : Standing) → Stands (starting x) z → ((e : ℕ) → starting y e ≡ after z (Modify s d t) (starting x) e) → Acts (held xs i j) (held (set xs s y) (i + 1) j) (Modify s d t)
+      by z (never p) g = absurd (none 8 (modify-never (as-held Never (never p))))
+      by z (running {b} {x = x₀} l e) g =
+          modifies (last-held b x₀ l) (λ a c. at-two-keys (λ (w : Site). starting w c) (eqb d c) (eqb b c) (Some (begun t)) (Some (ended-on d x₀)) (g c ∙ ap (λ (o : Option Situation). cond (eqb d c) (Some (begun t)) (cond (eqb b c) (closed d o) (starting x c))) (l .starts)) a) refl (indexes-kept (i + 1) k)
+      by z (ended {b} {e} {x = x₀} l q) g = absurd (none 8 (modify-ended {b = b} {e = e} (as-held (Ended b e) (ended l q))))
 
   pub act-correct : (u : Setup) (d : ℕ) (t : Terms) → ((k : ℕ) → Applies u (held xs i j) (Correct s d t) k → ⊥) → Serves x y (Correct s d t) → Same-indexes-of x y → Acts (held xs i j) (held (set xs s y) i j) (Correct s d t)
   act-correct u d t none h k = by (starting x d) refl
     where
-    by : (o : Option Situation) → starting x d ≡ o → Acts (held xs i j) (held (set xs s y) i j) (Correct s d t)
-    by None e = absurd (none 10 (correct-none (ap (λ (w : Site). starting w d) (sym v) ∙ e)))
-    by (Some x₀) e =
-        corrects (ap (λ (w : Site). starting w d) (sym v) ∙ e)
-        (situated d (record { end = x₀ .end; terms = t }) i (λ c. h c ∙ ap (λ (o : Option Situation). cond (eqb d c) (renewed t o) (starting x c)) e)) refl (indexes-kept i k)
+      by : (o : Option Situation) → starting x d ≡ o → Acts (held xs i j) (held (set xs s y) i j) (Correct s d t)
+      by None e = absurd (none 10 (correct-none (ap (λ (w : Site). starting w d) (sym v) ∙ e)))
+      by (Some x₀) e =
+          corrects (ap (λ (w : Site). starting w d) (sym v) ∙ e)
+          (situated d (record { end = x₀ .end; terms = t }) i (λ c. h c ∙ ap (λ (o : Option Situation). cond (eqb d c) (renewed t o) (starting x c)) e)) refl (indexes-kept i k)

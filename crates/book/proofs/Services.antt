@@ -10,18 +10,18 @@ use Rattle.std.proofs.shelf.Tests.{cases-lt}
 use Rattle.lemmas.proofs.Options.{some-when}
 use Rattle.book_rules.specs.declared.Situation.{Situation}
 use Rattle.book_rules.proofs.Keys.{not-none}
-use Rattle.book.specs.declared.questions.Service.{Service}
+use Rattle.book_rules.specs.declared.Service.{Service}
 use Rattle.book.specs.Sites.{covering, service-of, Serving}
 
 -- the one that starts on b was answered
 pub found : (f : ℕ → Option Situation) (b d : ℕ) (v : Service) → Some v ≡ service-of b (f b) d → Serving f d (Some v)
 found f b d v e = by (f b) refl e
   where
-  by : (o : Option Situation) → f b ≡ o → Some v ≡ service-of b o d → Serving f d (Some v)
-  by None k h = absurd (not-none {X = Service} None (sym h) refl)
-  by (Some x) k h =
-      let p = some-when (covering b x d) (record { start = b; situation = x }) v h in
-      subst (λ (w : Service). Serving f d (Some w)) (sym (p .1)) (k, p .0)
+    by : (o : Option Situation) → f b ≡ o → Some v ≡ service-of b o d → Serving f d (Some v)
+    by None k h = absurd (not-none {X = Service} None (sym h) refl)
+    by (Some x) k h =
+        let p = some-when (covering b x d) (record { start = b; situation = x }) v h in
+        subst (λ (w : Service). Serving f d (Some w)) (sym (p .1)) (k, p .0)
 
 no-service : (b : Bool) (v : Service) → cond b (Some v) None ≡ None → b ≡ false
 no-service true v h = absurd (not-none (Some v) refl h)

@@ -32,14 +32,14 @@ none-on x e d =
 pub no-entries : (x : Site) → x .situations .days ≡ replicate 36 None → x .first .days ≡ replicate 36 None → x .second .days ≡ replicate 36 None → No-entries x
 no-entries x a b c = record { no-situation = none-on (x .situations) a; no-index = λ k d. by-dial k d (cases-bool (eqb k 1)) (cases-bool (eqb k 2)) }
   where
-  by-dial : (k d : ℕ) → (eqb k 1 ≡ true) ⊎ (eqb k 1 ≡ false) → (eqb k 2 ≡ true) ⊎ (eqb k 2 ≡ false) → standing-index x k d ≡ None
-  by-dial k d p q =
-      ⊎-elim {C = standing-index x k d ≡ None}
-      (λ (h : eqb k 1 ≡ true). cond-true _ _ _ h ∙ none-on (x .first) b d)
-      (λ (h : eqb k 1 ≡ false).
+    by-dial : (k d : ℕ) → (eqb k 1 ≡ true) ⊎ (eqb k 1 ≡ false) → (eqb k 2 ≡ true) ⊎ (eqb k 2 ≡ false) → standing-index x k d ≡ None
+    by-dial k d p q =
+        ⊎-elim {C = standing-index x k d ≡ None}
+        (λ (h : eqb k 1 ≡ true). cond-true _ _ _ h ∙ none-on (x .first) b d)
+        (λ (h : eqb k 1 ≡ false).
         cond-false _ _ _ h
         ∙ ⊎-elim {C = cond (eqb k 2) (on (x .second) d) None ≡ None} (λ (i : eqb k 2 ≡ true). cond-true _ _ _ i ∙ none-on (x .second) c d) (λ (i : eqb k 2 ≡ false). cond-false _ _ _ i) q)
-      p
+        p
 
 pub nothing-there : No-entries no-site
 unfolding no-site no-days
@@ -54,8 +54,8 @@ past-index x k d h =
     ⊎-elim {C = standing-index x k d ≡ None}
     (λ (p : eqb k 1 ≡ true). cond-true _ _ _ p ∙ past (x .first) d h)
     (λ (p : eqb k 1 ≡ false).
-      cond-false _ _ _ p
-      ∙ ⊎-elim {C = cond (eqb k 2) (on (x .second) d) None ≡ None} (λ (q : eqb k 2 ≡ true). cond-true _ _ _ q ∙ past (x .second) d h) (λ (q : eqb k 2 ≡ false). cond-false _ _ _ q) (cases-bool (eqb k 2)))
+    cond-false _ _ _ p
+    ∙ ⊎-elim {C = cond (eqb k 2) (on (x .second) d) None ≡ None} (λ (q : eqb k 2 ≡ true). cond-true _ _ _ q ∙ past (x .second) d h) (λ (q : eqb k 2 ≡ false). cond-false _ _ _ q) (cases-bool (eqb k 2)))
     (cases-bool (eqb k 1))
 
 pub within : (xs : List Site) (i j : ℕ) → Within 36 (held xs i j)
@@ -74,3 +74,7 @@ one-more-empty [] x h e zero = e
 one-more-empty [] x h e (suc s) = h s
 one-more-empty (y ∷ xs) x h e zero = h zero
 one-more-empty (y ∷ xs) x h e (suc s) = one-more-empty xs x (λ z. h (suc z)) e s
+
+-- of a site that the book has not nothing is kept
+pub unknown : (xs : List Site) (s : ℕ) → length xs ≤ s → No-entries (getD xs s no-site)
+unknown xs s h = subst No-entries (sym (getD-past xs s no-site h)) nothing-there

@@ -19,9 +19,9 @@ use Rattle.book_rules.specs.Telling.{Step, Told}
 use Rattle.book.specs.declared.by_day.ByDay.{ByDay}
 use Rattle.book.specs.declared.site.Site.{Site}
 use Rattle.book.specs.declared.store.Book.{Book}
-use Rattle.book.specs.declared.setting_up.SetUp.{SetUp}
-use Rattle.book.specs.declared.setting_up.SetUpError.{SetUpError}
-use Rattle.book.specs.declared.setting_up.SetUpError.the-variants.{Refused, OutOfMemory}
+use Rattle.book_rules.specs.declared.SetUp.{SetUp}
+use Rattle.book_rules.specs.declared.SetUpError.{SetUpError}
+use Rattle.book_rules.specs.declared.SetUpError.the-variants.{Refused, OutOfMemory}
 use Rattle.book.specs.Sites.{starting, standing-index, No-entries}
 
 -- A site that keeps nothing stands for every site that the book has not.

@@ -1,3 +1,2 @@
 pub mod Sites
 pub mod Books
-pub mod Replaying

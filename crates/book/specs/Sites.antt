@@ -17,7 +17,7 @@ use Rattle.book_rules.specs.Telling.{begun, ended-on}
 use Rattle.book_rules.specs.Tests.{standing-by}
 use Rattle.book.specs.declared.by_day.ByDay.{ByDay}
 use Rattle.book.specs.declared.site.Site.{Site}
-use Rattle.book.specs.declared.questions.Service.{Service}
+use Rattle.book_rules.specs.declared.Service.{Service}
 
 abbrev pub on : {X : Type 0} → ByDay X → ℕ → Option X
 on x d = getD (x .days) d None

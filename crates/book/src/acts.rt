@@ -7,10 +7,10 @@ ghost use Rattle.book_rules.specs.declared.Call.the-variants.{Open, Modify, End
 ghost use Rattle.book_rules.specs.Refusing.{Rules};
 ghost use Rattle.book_rules.specs.Telling.{Acts};
 ghost use Rattle.book.specs.Books.{setup, contents};
+use crate::store::Book;
 use book_rules::Call;
 use book_rules::Index;
 use book_rules::Terms;
-use crate::store::Book;
 
 impl Book {
     pub(crate) fn act_open(&mut self, site: u16, day: u8, terms: Terms)
@@ -18,7 +18,8 @@ impl Book {
         ensures same { λ _. ⌜ setup (now (self .exit)) ≡ setup (now (self .entry)) ⌝ }
         ensures acts { λ _. ⌜ Acts (contents (now (self .entry))) (contents (now (self .exit))) (Open site day terms) ⌝ }
     {
-        self.sites[site as usize].serve(Call::Open { site, day, terms });
+        self.sites[site as usize]
+            .serve(Call::Open { site, day, terms });
         self.situation_count += 1;
     }
 
@@ -27,7 +28,8 @@ impl Book {
         ensures same { λ _. ⌜ setup (now (self .exit)) ≡ setup (now (self .entry)) ⌝ }
         ensures acts { λ _. ⌜ Acts (contents (now (self .entry))) (contents (now (self .exit))) (Modify site day terms) ⌝ }
     {
-        self.sites[site as usize].serve(Call::Modify { site, day, terms });
+        self.sites[site as usize]
+            .serve(Call::Modify { site, day, terms });
         self.situation_count += 1;
     }
 
@@ -44,7 +46,8 @@ impl Book {
         ensures same { λ _. ⌜ setup (now (self .exit)) ≡ setup (now (self .entry)) ⌝ }
         ensures acts { λ _. ⌜ Acts (contents (now (self .entry))) (contents (now (self .exit))) (Correct site day terms) ⌝ }
     {
-        self.sites[site as usize].serve(Call::Correct { site, day, terms });
+        self.sites[site as usize]
+            .serve(Call::Correct { site, day, terms });
     }
 
     pub(crate) fn act_enter(&mut self, site: u16, dial: u8, day: u8, value: u32)
@@ -52,7 +55,8 @@ impl Book {
         ensures same { λ _. ⌜ setup (now (self .exit)) ≡ setup (now (self .entry)) ⌝ }
         ensures acts { λ _. ⌜ Acts (contents (now (self .entry))) (contents (now (self .exit))) (Enter site dial day value) ⌝ }
     {
-        self.sites[site as usize].put_index(dial, day, Some(Index { value }));
+        self.sites[site as usize]
+            .put_index(dial, day, Some(Index { value }));
         self.index_count += 1;
     }
 

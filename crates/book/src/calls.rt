@@ -3,32 +3,29 @@ ghost use mathlib.Core.Path.{_≡_};
 ghost use Rattle.std.specs.declared.option.Option.the-variants.{None};
 ghost use Rattle.book_rules.specs.Refusing.{Rules};
 ghost use Rattle.book_rules.specs.Telling.{Acts};
-ghost use Rattle.book_rules.specs.Tests.{first, tests};
 ghost use Rattle.book.specs.Books.{setup, contents, ruled, Made};
-use book_rules::Call;
 use crate::store::Book;
+use book_rules::Call;
 use refusals::Refusal;
 
 impl Book {
-    // The first of the tests of a call that holds.
-    fn tested(&self, call: Call) -> Option<Refusal>
-        ensures { λ r. ⌜ ruled r ≡ first (tests 36 (setup (now (self .entry))) (contents (now (self .entry))) call) ⌝ }
+    // Why a call is refused, if it is: the upper refusal that applies to it.
+    pub fn ruling(&self, call: Call) -> Option<Refusal>
+        ensures { λ r. ⌜ Rules (setup (now (self .entry))) (contents (now (self .entry))) call (ruled r) ⌝ }
     {
         match call {
             Call::Open { site, day, terms } => self.open_ruling(site, day, terms),
             Call::Modify { site, day, terms } => self.modify_ruling(site, day, terms),
             Call::End { site, day } => self.end_ruling(site, day),
             Call::Correct { site, day, terms } => self.correct_ruling(site, day, terms),
-            Call::Enter { site, dial, day, value } => self.enter_ruling(site, dial, day, value),
+            Call::Enter {
+                site,
+                dial,
+                day,
+                value,
+            } => self.enter_ruling(site, dial, day, value),
             Call::Strike { site, dial, day } => self.strike_ruling(site, dial, day),
         }
-    }
-
-    // Why a call is refused, if it is: the upper refusal that applies to it.
-    pub fn ruling(&self, call: Call) -> Option<Refusal>
-        ensures { λ r. ⌜ Rules (setup (now (self .entry))) (contents (now (self .entry))) call (ruled r) ⌝ }
-    {
-        self.tested(call)
     }
 
     // Does a call that is not refused.
@@ -42,7 +39,12 @@ impl Book {
             Call::Modify { site, day, terms } => self.act_modify(site, day, terms),
             Call::End { site, day } => self.act_end(site, day),
             Call::Correct { site, day, terms } => self.act_correct(site, day, terms),
-            Call::Enter { site, dial, day, value } => self.act_enter(site, dial, day, value),
+            Call::Enter {
+                site,
+                dial,
+                day,
+                value,
+            } => self.act_enter(site, dial, day, value),
             Call::Strike { site, dial, day } => self.act_strike(site, dial, day),
         }
     }

@@ -1,9 +1,9 @@
 // The six calls by name.
 ghost use Rattle.book_rules.specs.declared.Call.the-variants.{Open, Modify, End, Correct, Enter, Strike};
 ghost use Rattle.book.specs.Books.{Made};
+use crate::store::Book;
 use book_rules::Call;
 use book_rules::Terms;
-use crate::store::Book;
 use refusals::Refusal;
 
 impl Book {
@@ -39,7 +39,12 @@ impl Book {
     pub fn enter(&mut self, site: u16, dial: u8, day: u8, value: u32) -> Result<(), Refusal>
         ensures { λ r. ⌜ Made (now (self .entry)) (Enter site dial day value) r (now (self .exit)) ⌝ }
     {
-        self.make(Call::Enter { site, dial, day, value })
+        self.make(Call::Enter {
+            site,
+            dial,
+            day,
+            value,
+        })
     }
 
     // The index of a dial on that day goes, and its place is free.

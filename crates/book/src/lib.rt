@@ -6,7 +6,6 @@ mod by_day;
 pub mod calls;
 pub mod entries;
 pub mod questions;
-pub mod replaying;
 mod rulings;
 pub mod setting_up;
 mod site;

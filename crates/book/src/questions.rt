@@ -3,19 +3,12 @@ ghost use mathlib.Core.Path.{_≡_};
 ghost use Prim.Native.Nat.{_<_};
 ghost use Rattle.book.specs.Sites.{starting, service-of, Serving};
 ghost use Rattle.book.specs.Books.{setup, contents, Stands-so, left-of};
-use book_rules::Situation;
-use book_rules::SituationDebug;
-use book_rules::SituationPartialEq;
-use book_rules::Standing;
 use crate::site::Site;
 use crate::store::Book;
-
-// A situation with the day on which it starts.
-#[derive(Clone, Copy, PartialEq, Eq, Debug)]
-pub struct Service {
-    pub start: u8,
-    pub situation: Situation,
-}
+use book_rules::Index;
+use book_rules::Service;
+use book_rules::Situation;
+use book_rules::Standing;
 
 // The situation, if there is one and it covers the day.
 fn service_on(start: u8, situation: Option<Situation>, day: u8) -> Option<Service>
@@ -61,6 +54,32 @@ impl Book {
             return None;
         }
         self.sites[site as usize].service(day)
+    }
+
+    // The situation of a site that starts on a day, if there is one.
+    pub fn situation_starting(&self, site: u16, day: u8) -> Option<Situation>
+        ensures { λ r. ⌜ r ≡ contents (now (self .entry)) .situation site day ⌝ }
+    {
+        if site as usize >= self.sites.len() {
+            return None;
+        }
+        if day > 35 {
+            return None;
+        }
+        self.sites[site as usize].situations.at(day)
+    }
+
+    // The index of a site's dial that stands on a day, if there is one.
+    pub fn index_standing(&self, site: u16, dial: u8, day: u8) -> Option<Index>
+        ensures { λ r. ⌜ r ≡ contents (now (self .entry)) .index site dial day ⌝ }
+    {
+        if site as usize >= self.sites.len() {
+            return None;
+        }
+        if day > 35 {
+            return None;
+        }
+        self.sites[site as usize].index(dial, day)
     }
 
     // How many places for situations are free; None if more were taken than there are, which no history tells.

@@ -12,10 +12,10 @@ ghost use Rattle.profiles.specs.Table.{profileOf};
 ghost use Rattle.book_rules.specs.declared.Call.the-variants.{Open, Modify, End, Correct, Enter, Strike};
 ghost use Rattle.book_rules.specs.Tests.{first, tests, standing, opened-running, not-served, unfit-day};
 ghost use Rattle.book.specs.Books.{setup, contents, ruled};
+use crate::store::Book;
 use book_rules::Call;
 use book_rules::Standing;
 use book_rules::Terms;
-use crate::store::Book;
 use profiles::Profile;
 use refusals::Refusal;
 
@@ -31,13 +31,20 @@ fn contradiction(standing: Standing, call: Call) -> Option<Refusal>
 {
     match (standing, call) {
         (Standing::Running(_), Call::Open { .. }) => Some(Refusal::AlreadyRunning),
-        (Standing::Ended { end, .. }, Call::Open { day, .. }) if day < end => Some(Refusal::DayNotAllowed),
+        (Standing::Ended { end, .. }, Call::Open { day, .. }) if day < end => Some(
+            Refusal::DayNotAllowed,
+        ),
         (Standing::Never, Call::Modify { .. }) => Some(Refusal::NotServed),
         (Standing::Ended { .. }, Call::Modify { .. }) => Some(Refusal::NotServed),
-        (Standing::Running(start), Call::Modify { day, .. }) if day <= start => Some(Refusal::DayNotAllowed),
+        (Standing::Running(start), Call::Modify { day, .. }) if day <= start => Some(
+            Refusal::DayNotAllowed,
+        ),
         (Standing::Never, Call::End { .. }) => Some(Refusal::NotServed),
-        (Standing::Running(start), Call::End { day, .. }) if day <= start => Some(Refusal::DayNotAllowed),
-        (Standing::Ended { start, end }, Call::End { day, .. }) if day <= start || day >= end => Some(Refusal::DayNotAllowed),
+        (Standing::Running(start), Call::End { day, .. }) if day <= start => Some(
+            Refusal::DayNotAllowed,
+        ),
+        (Standing::Ended { start, end }, Call::End { day, .. }) if day <= start || day >= end =>
+            Some(Refusal::DayNotAllowed),
         _ => None,
     }
 }
@@ -77,7 +84,10 @@ impl Book {
         if let Some(refusal) = self.terms_ruling(site, day, terms) {
             return Some(refusal);
         }
-        if let Some(refusal) = contradiction(self.standing_at(site), Call::Open { site, day, terms }) {
+        if let Some(refusal) = contradiction(
+            self.standing_at(site),
+            Call::Open { site, day, terms },
+        ) {
             return Some(refusal);
         }
         if self.situation_count >= self.situation_places {
@@ -92,7 +102,10 @@ impl Book {
         if let Some(refusal) = self.terms_ruling(site, day, terms) {
             return Some(refusal);
         }
-        if let Some(refusal) = contradiction(self.standing_at(site), Call::Modify { site, day, terms }) {
+        if let Some(refusal) = contradiction(
+            self.standing_at(site),
+            Call::Modify { site, day, terms },
+        ) {
             return Some(refusal);
         }
         if self.situation_count >= self.situation_places {

@@ -2,55 +2,27 @@
 ghost use mathlib.Core.Path.{_≡_};
 ghost use Rattle.std.specs.Vec.{made};
 ghost use Rattle.std.specs.Of.Vec.{vec-items, vec-len};
-ghost use Rattle.book.specs.declared.setting_up.SetUpError.the-variants.{OutOfMemory};
 ghost use Rattle.book.specs.Books.{within-bounds, Set-up, All-empty};
 use crate::site::Site;
 use crate::store::Book;
+use book_rules::SetUp;
+use book_rules::SetUpError;
+use book_rules::SetUpErrorFromAllocError;
 use refusals::Refusal;
-use refusals::RefusalDebug;
-use refusals::RefusalPartialEq;
 use std::alloc::AllocError;
 use std::alloc::Global;
 
-// What a book is set up with: the date of its first day and how many days, balance parties and sites, and the places for
-// situations and indexes.
-#[derive(Clone, Copy, PartialEq, Eq, Debug)]
-pub struct SetUp {
-    pub first: u32,
-    pub days: u8,
-    pub parties: u8,
-    pub sites: u16,
-    pub situation_places: usize,
-    pub index_places: usize,
-}
-
-#[derive(Clone, Copy, PartialEq, Eq, Debug)]
-pub enum SetUpError {
-    Refused(Refusal),
-    OutOfMemory,
-}
-
-pub impl From<AllocError> for SetUpError as SetUpErrorFromAllocError {
-    ghost converts = { λ e r. r ≡ OutOfMemory };
-
-    fn from(_: AllocError) -> SetUpError {
-        SetUpError::OutOfMemory
-    }
-}
-
-impl SetUp {
-    // Whether days, dates, parties and sites lie in their bounds.
-    pub fn is_within_bounds(&self) -> bool
-        ensures { λ r. ⌜ r ≡ within-bounds (now (self .entry)) ⌝ }
-    {
-        self.days >= 1
-            && self.days <= 35
-            && self.first as u64 + self.days as u64 <= 36_159
-            && self.parties >= 1
-            && self.parties <= 16
-            && self.sites >= 1
-            && self.sites <= 256
-    }
+// Whether days, dates, parties and sites lie in their bounds.
+fn is_within_bounds(set_up: SetUp) -> bool
+    ensures { λ r. ⌜ r ≡ within-bounds «set_up» ⌝ }
+{
+    set_up.days >= 1
+        && set_up.days <= 35
+        && set_up.first as u64 + set_up.days as u64 <= 36_159
+        && set_up.parties >= 1
+        && set_up.parties <= 16
+        && set_up.sites >= 1
+        && set_up.sites <= 256
 }
 
 // So many sites that keep nothing.
@@ -68,7 +40,7 @@ impl Book {
     pub fn new(heap: Global, set_up: SetUp) -> Result<Book, SetUpError>
         ensures { λ r. ⌜ Set-up «set_up» r ⌝ }
     {
-        if !set_up.is_within_bounds() {
+        if !is_within_bounds(set_up) {
             return Err(SetUpError::Refused(Refusal::SetupOutOfBounds));
         }
         let sites = empty_sites(heap, set_up.sites)?;

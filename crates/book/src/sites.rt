@@ -5,13 +5,13 @@ ghost use Prim.Native.Nat.{ℕ, _<_, _≤_};
 ghost use Rattle.std.specs.declared.option.Option.the-variants.{Some, None};
 ghost use Rattle.book_rules.specs.Tests.{standing-on, standing-by, against, crossed};
 ghost use Rattle.book.specs.Sites.{starting, standing-index, No-entries, Stands-at, Same-starts, Same-indexes-of, day-under, closed, corrected, after, Closes, Serves, Start-under};
+use crate::by_day::ByDay;
+use crate::site::Site;
 use book_rules::Call;
 use book_rules::Index;
 use book_rules::Situation;
 use book_rules::Standing;
 use book_rules::Terms;
-use crate::by_day::ByDay;
-use crate::site::Site;
 
 // How a site stands once a situation that starts on day b is looked at.
 fn stands_on(standing: Standing, b: u8, situation: Option<Situation>) -> Standing
@@ -40,7 +40,11 @@ impl Site {
     pub(crate) fn new() -> Site
         ensures { λ r. ⌜ No-entries r ⌝ }
     {
-        Site { situations: ByDay::new(), first: ByDay::new(), second: ByDay::new() }
+        Site {
+            situations: ByDay::new(),
+            first: ByDay::new(),
+            second: ByDay::new(),
+        }
     }
 
     pub(crate) fn standing(&self) -> Standing
@@ -97,7 +101,13 @@ impl Site {
         ensures same { λ _. ⌜ Same-indexes-of (now (self .entry)) (now (self .exit)) ⌝ }
     {
         if let Some(situation) = self.situations.at(start) {
-            self.situations.put(start, Some(Situation { end: Some(day), terms: situation.terms }));
+            self.situations.put(
+                start,
+                Some(Situation {
+                    end: Some(day),
+                    terms: situation.terms,
+                }),
+            );
         }
     }
 
@@ -108,7 +118,13 @@ impl Site {
         ensures same { λ _. ⌜ Same-indexes-of (now (self .entry)) (now (self .exit)) ⌝ }
     {
         if let Some(situation) = self.situations.at(day) {
-            self.situations.put(day, Some(Situation { end: situation.end, terms }));
+            self.situations.put(
+                day,
+                Some(Situation {
+                    end: situation.end,
+                    terms,
+                }),
+            );
         }
     }
 
@@ -119,10 +135,12 @@ impl Site {
         ensures same { λ _. ⌜ Same-indexes-of (now (self .entry)) (now (self .exit)) ⌝ }
     {
         match (self.standing(), call) {
-            (_, Call::Open { day, terms, .. }) => self.situations.put(day, Some(Situation { end: None, terms })),
+            (_, Call::Open { day, terms, .. }) => self.situations
+                .put(day, Some(Situation { end: None, terms })),
             (Standing::Running(start), Call::Modify { day, terms, .. }) => {
                 self.close(start, day);
-                self.situations.put(day, Some(Situation { end: None, terms }));
+                self.situations
+                    .put(day, Some(Situation { end: None, terms }));
             }
             (Standing::Running(start), Call::End { day, .. }) => self.close(start, day),
             (Standing::Ended { start, .. }, Call::End { day, .. }) => self.close(start, day),

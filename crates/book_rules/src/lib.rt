@@ -1,7 +1,13 @@
 // What a book of sites knows: situations, indexes, the six calls that change them; and what a book holds after any
 // calls, told from the calls alone (specs/). No storage and no search: those are the crates above. docs/book.md has the
 // rules.
+ghost use mathlib.Core.Path.{_≡_};
+ghost use Rattle.book_rules.specs.declared.SetUpError.the-variants.{OutOfMemory};
 ghost use Rattle.book_rules.specs.Laws.{Tells-one, Always-orderly, Tests-rule};
+use refusals::Refusal;
+use refusals::RefusalDebug;
+use refusals::RefusalPartialEq;
+use std::alloc::AllocError;
 
 // The terms on which a site is served: the balance party on whose account, the class (metering configuration) and the
 // subscribed power in kVA.
@@ -67,6 +73,40 @@ pub enum Call {
         dial: u8,
         day: u8,
     },
+}
+
+// What a book is set up with: the date of its first day, how many days, balance parties and sites, and the places for
+// situations and indexes.
+#[derive(Clone, Copy, PartialEq, Eq, Debug)]
+pub struct SetUp {
+    pub first: u32,
+    pub days: u8,
+    pub parties: u8,
+    pub sites: u16,
+    pub situation_places: usize,
+    pub index_places: usize,
+}
+
+// Why there is no book: its set-up is refused, or there is no memory for it.
+#[derive(Clone, Copy, PartialEq, Eq, Debug)]
+pub enum SetUpError {
+    Refused(Refusal),
+    OutOfMemory,
+}
+
+pub impl From<AllocError> for SetUpError as SetUpErrorFromAllocError {
+    ghost converts = { λ e r. r ≡ OutOfMemory };
+
+    fn from(_: AllocError) -> SetUpError {
+        SetUpError::OutOfMemory
+    }
+}
+
+// A situation with the day on which it starts.
+#[derive(Clone, Copy, PartialEq, Eq, Debug)]
+pub struct Service {
+    pub start: u8,
+    pub situation: Situation,
 }
 
 // The calls tell what a book holds: every list of calls tells some content, and only one.

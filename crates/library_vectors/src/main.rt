@@ -1,7 +1,10 @@
 // library_vectors: runs whole cases from outside, in data/library.txt, and holds what the crates answer against them. It
-// prints a line for each case and ends with an error where anything differs. So far it reads the lines on the calendar
-// and on weights; those on calls, sheets, curves and factors are passed over.
+// prints a line for each case and ends with an error where anything differs. So far it reads the lines on the calendar,
+// on weights and on calls; those on sheets, curves and factors are passed over.
+use book::store::Book;
 use calendar::place_of;
+use calling::book_of;
+use calling::is_answered_so;
 use std::alloc::AllocError;
 use std::alloc::Global;
 use std::error::AnyError;
@@ -14,6 +17,7 @@ use words::after;
 use words::first;
 use words::number;
 
+mod calling;
 mod weighing;
 mod words;
 
@@ -28,6 +32,7 @@ struct Case {
     zeros: u32,
     holidays: Vec<u32>,
     layers: Vec<(i16, usize)>,
+    book: Option<Book>,
     compared: u32,
     differing: u32,
 }
@@ -76,6 +81,7 @@ fn new_case(heap: Global, number: u32) -> Case {
         zeros: 0,
         holidays: Vec::new(heap),
         layers: Vec::new(heap),
+        book: None,
         compared: 0,
         differing: 0,
     }
@@ -87,6 +93,11 @@ fn read_line(case: &mut Case, heap: Global, line: &str) -> Result<(), AllocError
         "setup" => {
             case.first = number(line, "first", 0).unwrap_or(0);
             case.days = number(line, "days", 0).unwrap_or(0) as usize;
+            case.book = book_of(heap, line);
+        }
+        "call" => {
+            let same = is_answered_so(&mut case.book, line);
+            compare(case, same);
         }
         "source" => read_source(case, line)?,
         "layer" => case.layers.push(layer_of(line))?,

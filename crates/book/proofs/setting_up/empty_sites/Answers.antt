@@ -1,6 +1,7 @@
 use mathlib.Core.Path.{_≡_, sym, ap, subst, _∙_}
 use Prim.Native.Nat.{ℕ, _+_}
 use native.Mathlib.Omega.{arith}
+use Rattle.std.specs.Of.Vec.{vec-items}
 use Rattle.book.specs.Books.{All-empty}
 use Rattle.book.proofs.Storage.{all-empty, one-more-empty}
 use Rattle.book.proofs.setting_up.empty_sites.Needs as need
@@ -13,7 +14,7 @@ loop-holds c =
 pub loop-again : need.loop-again
 loop-again c =
     let p = c .in-Continue-push .ensures tt in
-    (p .len ∙ ap (λ (n : ℕ). n + 1) (c .loop .inv .0), subst All-empty (sym (p .items)) (one-more-empty _ _ (c .loop .inv .1) (c .new .ensures)))
+    (p .len ∙ ap (λ (n : ℕ). n + 1) (c .loop .inv .0), subst All-empty (sym (p .items)) (one-more-empty (vec-items (c .loop .sites)) (c .new .result) (c .loop .inv .1) (c .new .ensures)))
 
 pub returns : need.returns
 returns c =

@@ -22,7 +22,7 @@ loop-e-again c =
     let more = crossed-more f (c .args .day) (c .args .value) (c .loop-e .e) in
     let is : c .contradicts .result ≡ against (c .args .day) (c .args .value) (c .loop-e .e) (f (c .loop-e .e)) = c .contradicts .ensures ∙ ap (against (c .args .day) (c .args .value) (c .loop-e .e)) (c .index .ensures) in
     elim (c .if-contradicts .came) [
-      then-contradicts w ↦ w .found-is ∙ sym (more ∙ or-right _ _ (sym is ∙ w .if-contradicts .taken))
+      | then-contradicts w ↦ w .found-is ∙ sym (more ∙ or-right _ _ (sym is ∙ w .if-contradicts .taken))
       | else-contradicts w ↦ w .found-is ∙ (c .loop-e .inv ∙ sym (more ∙ or-none _ _ (sym is ∙ w .if-contradicts .left)))
     ]
 

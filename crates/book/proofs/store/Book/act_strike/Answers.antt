@@ -18,4 +18,5 @@ returns c =
     record {
       same = refl;
       acts = subst (λ (k : ℕ). Acts (contents b) (held (set xs s (c .put-index .last .self)) (b .«situation_count») k) (Strike s (c .args .dial) (c .args .day))) (sym (c .saturating-sub-self .ensures))
-        (act-strike xs s _ (c .put-index .last .self) lt old (b .«situation_count») (b .«index_count») (c .args .dial) (c .args .day) (c .put-index .ensures .put) (c .put-index .ensures .same)) }
+          (act-strike xs s _ (c .put-index .last .self) lt old (b .«situation_count») (b .«index_count») (c .args .dial) (c .args .day) (c .put-index .ensures .put) (c .put-index .ensures .same));
+    }

@@ -1,22 +1,19 @@
-use mathlib.Core.Path.{sym, ap, subst, _∙_}
+use mathlib.Core.Path.{subst}
 use Prim.Native.Nat.{_<_, _≤_}
 use native.Mathlib.Omega.{arith}
 use lib.ListN.{length}
 use Rattle.std.specs.Of.Vec.{vec-items}
-use Rattle.std.proofs.shelf.Lists.{getD-past}
 use Rattle.book_rules.proofs.Keys.{not-none}
 use Rattle.book.specs.declared.site.Site.{Site}
 use Rattle.book.specs.Sites.{starting, Serving}
-use Rattle.book.specs.Books.{no-site}
-use Rattle.book.proofs.Storage.{nothing-there, read}
+use Rattle.book.proofs.Storage.{unknown, read}
 use Rattle.book.proofs.store.Book.service_of.Needs as need
 
 pub returns-then-site-len : need.returns-then-site-len
 returns-then-site-len c = λ b x e.
     let xs = vec-items (c .args .self .now .sites) in
     let past-end : length xs ≤ c .args .site = omega arith in
-    let gone = getD-past xs (c .args .site) no-site past-end in
-    absurd (not-none _ e (ap (λ (w : Site). starting w b) gone ∙ nothing-there .no-situation b))
+    absurd (not-none _ e (unknown xs (c .args .site) past-end .no-situation b))
 
 pub returns : need.returns
 returns c =

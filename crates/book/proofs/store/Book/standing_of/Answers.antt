@@ -12,8 +12,7 @@ use Rattle.book.proofs.store.Book.standing_of.Needs as need
 
 pub returns : need.returns
 returns c =
-    let x = getD (vec-items (c .args .self .now .sites)) (c .args .site) no-site in
-    (
+    let x = getD (vec-items (c .args .self .now .sites)) (c .args .site) no-site in (
       subst (λ (n : ℕ). c .args .site < n) (c .len .ensures) (c .if-site-len .left),
       subst (λ (z : Standing). Stands (starting x) z) (sym (c .standing-at .ensures)) (stands-by (starting x) 36 (past (x .situations))),
     )

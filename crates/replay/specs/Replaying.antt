@@ -11,11 +11,11 @@ use Rattle.refusals.specs.Numbers.{numberOf}
 use Rattle.book_rules.specs.declared.Call.{Call}
 use Rattle.book_rules.specs.Contents.{Setup, Contents}
 use Rattle.book_rules.specs.Telling.{Step, Told}
-use Rattle.book.specs.declared.setting_up.SetUp.{SetUp}
-use Rattle.book.specs.declared.setting_up.SetUpError.{SetUpError}
-use Rattle.book.specs.declared.setting_up.SetUpError.the-variants.{Refused, OutOfMemory}
-use Rattle.book.specs.declared.replaying.ReplayedBook.{ReplayedBook}
+use Rattle.book_rules.specs.declared.SetUp.{SetUp}
+use Rattle.book_rules.specs.declared.SetUpError.{SetUpError}
+use Rattle.book_rules.specs.declared.SetUpError.the-variants.{Refused, OutOfMemory}
+use Rattle.replay.specs.declared.ReplayedBook.{ReplayedBook}
 use Rattle.book.specs.Books.{setup, contents, answered, within-bounds, as-set}
 
 -- These calls, answered so, lead from nothing to this.
 pub data Answered (u : Setup) : List Call → List (Result (Unit {0}) Refusal) → Contents → Type 0 where

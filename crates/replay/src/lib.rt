@@ -1,11 +1,11 @@
-// A book replayed: set up, and a list of calls made in turn, past the refused ones.
+// A book replayed: set up, and a list of calls made in turn, past the refused ones. docs/book.md has the rules.
 ghost use mathlib.Core.Path.{_≡_};
-ghost use Rattle.book.specs.Replaying.{Replayed};
+ghost use Rattle.replay.specs.Replaying.{Replayed};
+use book::store::Book;
 use book_rules::Call;
-use crate::setting_up::SetUp;
-use crate::setting_up::SetUpError;
-use crate::setting_up::SetUpErrorFromAllocError;
-use crate::store::Book;
+use book_rules::SetUp;
+use book_rules::SetUpError;
+use book_rules::SetUpErrorFromAllocError;
 use refusals::Refusal;
 use std::alloc::Global;
 
@@ -16,7 +16,7 @@ pub struct ReplayedBook {
     pub answers: Vec<Result<(), Refusal>>,
 }
 
-pub fn replay(heap: Global, set_up: SetUp, calls: &[Call]) -> Result<ReplayedBook, SetUpError>
+pub fn replayed(heap: Global, set_up: SetUp, calls: &[Call]) -> Result<ReplayedBook, SetUpError>
     ensures { λ r. ⌜ Replayed «set_up» (now (calls .entry)) r ⌝ }
 {
     let mut book = Book::new(heap, set_up)?;

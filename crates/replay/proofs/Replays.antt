@@ -7,9 +7,9 @@ use Rattle.book_rules.specs.declared.Call.{Call}
 use Rattle.book_rules.specs.Contents.{Setup, Contents}
 use Rattle.book_rules.specs.Telling as telling
 use Rattle.book_rules.specs.Telling.{Told, Step}
 use Rattle.book.specs.declared.store.Book.{Book}
 use Rattle.book.specs.Books.{setup, contents, answered, Made}
-use Rattle.book.specs.Replaying.{Answered, at-first, after}
+use Rattle.replay.specs.Replaying.{Answered, at-first, after}
 
 pub told-of : (u : Setup) (h : List Call) (rs : List (Result (Unit {0}) Refusal)) (m : Contents) → Answered u h rs m → Told u h m
 told-of u h rs m (at-first _ t) = t

@@ -3,9 +3,9 @@ use mathlib.Core.List.{[]}
 use lib.ListN.{take}
 use Rattle.std.specs.Of.Vec.{vec-items}
 use Rattle.book_rules.specs.Telling.{Told}
 use Rattle.book.specs.Books.{setup, contents}
-use Rattle.book.specs.Replaying.{Answered}
-use Rattle.book.proofs.replaying.replay.Given as given
+use Rattle.replay.specs.Replaying.{Answered}
+use Rattle.replay.proofs.replayed.Given as given
 
 abbrev pub Inv-loop-call : given.InvT-loop-call
 Inv-loop-call l =

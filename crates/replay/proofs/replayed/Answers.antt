@@ -9,10 +9,10 @@ use Rattle.refusals.specs.declared.Refusal.{Refusal}
 use Rattle.book_rules.specs.declared.Call.{Call}
 use Rattle.book_rules.specs.Contents.{Setup}
 use Rattle.book_rules.specs.Telling.{Told}
 use Rattle.book.specs.Books.{setup, contents, as-set}
-use Rattle.book.specs.Replaying.{Answered, at-first}
-use Rattle.book.proofs.Replays.{told-of, one-call}
-use Rattle.book.proofs.replaying.replay.Needs as need
+use Rattle.replay.specs.Replaying.{Answered, at-first}
+use Rattle.replay.proofs.Replays.{told-of, one-call}
+use Rattle.replay.proofs.replayed.Needs as need
 
 pub loop-call-holds : need.loop-call-holds
 loop-call-holds c =
@@ -21,8 +21,7 @@ loop-call-holds c =
 
 pub loop-call-again : need.loop-call-again
 loop-call-again c =
-    let i = c .loop-call .call-index in let calls = c .args .calls .now in
-    (
+    let i = c .loop-call .call-index in let calls = c .args .calls .now in (
       c .make .ensures .same ∙ c .loop-call .inv .0,
       λ t.
           one-call (setup (c .in-Continue-book .book)) (take i calls) _ (vec-items (c .loop-call .answers)) _ _ (c .make .result) (c .loop-call .book) (c .make .last .self) (c .loop-call .inv .0) (c .make .ensures)
