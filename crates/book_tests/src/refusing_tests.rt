@@ -112,113 +112,51 @@ fn all_refused(heap: Global, cases: &[(Call, u8)]) -> Result<(), Fail> {
     Ok(())
 }
 
+fn opening(site: u16, day: u8, terms: Terms) -> Call {
+    Call::Open { site, day, terms }
+}
+
+fn change(site: u16, day: u8, terms: Terms) -> Call {
+    Call::Modify { site, day, terms }
+}
+
+fn ending(site: u16, day: u8) -> Call {
+    Call::End { site, day }
+}
+
+fn correction(site: u16, day: u8, terms: Terms) -> Call {
+    Call::Correct { site, day, terms }
+}
+
+fn entry(site: u16, dial: u8, day: u8, value: u32) -> Call {
+    Call::Enter {
+        site,
+        dial,
+        day,
+        value,
+    }
+}
+
+fn striking(site: u16, dial: u8, day: u8) -> Call {
+    Call::Strike { site, dial, day }
+}
+
 #[test]
 fn openings(rt: LibcRuntime) -> Result<(), Fail> {
     let cases: [(Call, u8); 13] = [
-        (
-            Call::Open {
-                site: 3,
-                day: 9,
-                terms: NO_PARTY,
-            },
-            3,
-        ),
-        (
-            Call::Open {
-                site: u16::MAX,
-                day: 0,
-                terms: GOOD,
-            },
-            3,
-        ),
-        (
-            Call::Open {
-                site: 0,
-                day: 9,
-                terms: NO_PARTY,
-            },
-            4,
-        ),
-        (
-            Call::Open {
-                site: 0,
-                day: 3,
-                terms: NO_CLASS,
-            },
-            5,
-        ),
-        (
-            Call::Open {
-                site: 0,
-                day: 0,
-                terms: NO_CLASS,
-            },
-            6,
-        ),
-        (
-            Call::Open {
-                site: 0,
-                day: 0,
-                terms: NO_POWER,
-            },
-            6,
-        ),
-        (
-            Call::Open {
-                site: 0,
-                day: 0,
-                terms: GOOD,
-            },
-            7,
-        ),
-        (
-            Call::Open {
-                site: 0,
-                day: 1,
-                terms: GOOD,
-            },
-            7,
-        ),
-        (
-            Call::Open {
-                site: 0,
-                day: 2,
-                terms: GOOD,
-            },
-            7,
-        ),
-        (
-            Call::Open {
-                site: 1,
-                day: 0,
-                terms: GOOD,
-            },
-            9,
-        ),
-        (
-            Call::Open {
-                site: 1,
-                day: 1,
-                terms: GOOD,
-            },
-            9,
-        ),
-        (
-            Call::Open {
-                site: 1,
-                day: 2,
-                terms: GOOD,
-            },
-            11,
-        ),
-        (
-            Call::Open {
-                site: 2,
-                day: 0,
-                terms: GOOD,
-            },
-            11,
-        ),
+        (opening(3, 9, NO_PARTY), 3),
+        (opening(u16::MAX, 0, GOOD), 3),
+        (opening(0, 9, NO_PARTY), 4),
+        (opening(0, 3, NO_CLASS), 5),
+        (opening(0, 0, NO_CLASS), 6),
+        (opening(0, 0, NO_POWER), 6),
+        (opening(0, 0, GOOD), 7),
+        (opening(0, 1, GOOD), 7),
+        (opening(0, 2, GOOD), 7),
+        (opening(1, 0, GOOD), 9),
+        (opening(1, 1, GOOD), 9),
+        (opening(1, 2, GOOD), 11),
+        (opening(2, 0, GOOD), 11),
     ];
     all_refused(rt.alloc(), &cases)
 }
@@ -226,297 +164,75 @@ fn openings(rt: LibcRuntime) -> Result<(), Fail> {
 #[test]
 fn modifications(rt: LibcRuntime) -> Result<(), Fail> {
     let cases: [(Call, u8); 9] = [
-        (
-            Call::Modify {
-                site: 3,
-                day: 9,
-                terms: NO_PARTY,
-            },
-            3,
-        ),
-        (
-            Call::Modify {
-                site: 2,
-                day: 9,
-                terms: NO_PARTY,
-            },
-            4,
-        ),
-        (
-            Call::Modify {
-                site: 2,
-                day: 3,
-                terms: NO_CLASS,
-            },
-            5,
-        ),
-        (
-            Call::Modify {
-                site: 2,
-                day: 0,
-                terms: NO_POWER,
-            },
-            6,
-        ),
-        (
-            Call::Modify {
-                site: 2,
-                day: 0,
-                terms: GOOD,
-            },
-            8,
-        ),
-        (
-            Call::Modify {
-                site: 1,
-                day: 0,
-                terms: GOOD,
-            },
-            8,
-        ),
-        (
-            Call::Modify {
-                site: 0,
-                day: 0,
-                terms: GOOD,
-            },
-            9,
-        ),
-        (
-            Call::Modify {
-                site: 0,
-                day: 1,
-                terms: GOOD,
-            },
-            9,
-        ),
-        (
-            Call::Modify {
-                site: 0,
-                day: 2,
-                terms: GOOD,
-            },
-            11,
-        ),
+        (change(3, 9, NO_PARTY), 3),
+        (change(2, 9, NO_PARTY), 4),
+        (change(2, 3, NO_CLASS), 5),
+        (change(2, 0, NO_POWER), 6),
+        (change(2, 0, GOOD), 8),
+        (change(1, 0, GOOD), 8),
+        (change(0, 0, GOOD), 9),
+        (change(0, 1, GOOD), 9),
+        (change(0, 2, GOOD), 11),
     ];
     all_refused(rt.alloc(), &cases)
 }
 
 #[test]
-fn endings_and_corrections(rt: LibcRuntime) -> Result<(), Fail> {
-    let cases: [(Call, u8); 15] = [
-        (Call::End { site: 3, day: 9 }, 3),
-        (Call::End { site: 2, day: 4 }, 5),
-        (Call::End { site: 2, day: 3 }, 8),
-        (Call::End { site: 0, day: 0 }, 9),
-        (Call::End { site: 0, day: 1 }, 9),
-        (Call::End { site: 1, day: 0 }, 9),
-        (Call::End { site: 1, day: 2 }, 9),
-        (Call::End { site: 1, day: 3 }, 9),
-        (
-            Call::Correct {
-                site: 3,
-                day: 9,
-                terms: NO_PARTY,
-            },
-            3,
-        ),
-        (
-            Call::Correct {
-                site: 2,
-                day: 9,
-                terms: NO_PARTY,
-            },
-            4,
-        ),
-        (
-            Call::Correct {
-                site: 2,
-                day: 3,
-                terms: NO_CLASS,
-            },
-            5,
-        ),
-        (
-            Call::Correct {
-                site: 2,
-                day: 0,
-                terms: NO_POWER,
-            },
-            6,
-        ),
-        (
-            Call::Correct {
-                site: 0,
-                day: 2,
-                terms: GOOD,
-            },
-            10,
-        ),
-        (
-            Call::Correct {
-                site: 1,
-                day: 2,
-                terms: GOOD,
-            },
-            10,
-        ),
-        (
-            Call::Correct {
-                site: 2,
-                day: 0,
-                terms: GOOD,
-            },
-            10,
-        ),
+fn endings(rt: LibcRuntime) -> Result<(), Fail> {
+    let cases: [(Call, u8); 8] = [
+        (ending(3, 9), 3),
+        (ending(2, 4), 5),
+        (ending(2, 3), 8),
+        (ending(0, 0), 9),
+        (ending(0, 1), 9),
+        (ending(1, 0), 9),
+        (ending(1, 2), 9),
+        (ending(1, 3), 9),
     ];
     all_refused(rt.alloc(), &cases)
 }
 
 #[test]
-fn indexes(rt: LibcRuntime) -> Result<(), Fail> {
+fn corrections(rt: LibcRuntime) -> Result<(), Fail> {
+    let cases: [(Call, u8); 7] = [
+        (correction(3, 9, NO_PARTY), 3),
+        (correction(2, 9, NO_PARTY), 4),
+        (correction(2, 3, NO_CLASS), 5),
+        (correction(2, 0, NO_POWER), 6),
+        (correction(0, 2, GOOD), 10),
+        (correction(1, 2, GOOD), 10),
+        (correction(2, 0, GOOD), 10),
+    ];
+    all_refused(rt.alloc(), &cases)
+}
+
+#[test]
+fn entries(rt: LibcRuntime) -> Result<(), Fail> {
     let large = 1_000_000_000;
-    let cases: [(Call, u8); 16] = [
-        (
-            Call::Enter {
-                site: 3,
-                dial: 3,
-                day: 9,
-                value: large,
-            },
-            3,
-        ),
-        (
-            Call::Enter {
-                site: 0,
-                dial: 3,
-                day: 4,
-                value: large,
-            },
-            5,
-        ),
-        (
-            Call::Enter {
-                site: 0,
-                dial: 0,
-                day: 1,
-                value: large,
-            },
-            12,
-        ),
-        (
-            Call::Enter {
-                site: 0,
-                dial: 3,
-                day: 1,
-                value: large,
-            },
-            12,
-        ),
-        (
-            Call::Enter {
-                site: 0,
-                dial: 1,
-                day: 1,
-                value: large,
-            },
-            13,
-        ),
-        (
-            Call::Enter {
-                site: 0,
-                dial: 1,
-                day: 1,
-                value: 201,
-            },
-            14,
-        ),
-        (
-            Call::Enter {
-                site: 0,
-                dial: 1,
-                day: 1,
-                value: 100,
-            },
-            14,
-        ),
-        (
-            Call::Enter {
-                site: 0,
-                dial: 1,
-                day: 2,
-                value: 99,
-            },
-            15,
-        ),
-        (
-            Call::Enter {
-                site: 0,
-                dial: 1,
-                day: 2,
-                value: 201,
-            },
-            15,
-        ),
-        (
-            Call::Enter {
-                site: 0,
-                dial: 1,
-                day: 0,
-                value: 101,
-            },
-            15,
-        ),
-        (
-            Call::Enter {
-                site: 0,
-                dial: 1,
-                day: 2,
-                value: 200,
-            },
-            16,
-        ),
-        (
-            Call::Enter {
-                site: 2,
-                dial: 2,
-                day: 0,
-                value: 0,
-            },
-            16,
-        ),
-        (
-            Call::Strike {
-                site: 3,
-                dial: 3,
-                day: 9,
-            },
-            3,
-        ),
-        (
-            Call::Strike {
-                site: 0,
-                dial: 3,
-                day: 4,
-            },
-            5,
-        ),
-        (
-            Call::Strike {
-                site: 0,
-                dial: 3,
-                day: 1,
-            },
-            12,
-        ),
-        (
-            Call::Strike {
-                site: 0,
-                dial: 2,
-                day: 1,
-            },
-            17,
-        ),
+    let cases: [(Call, u8); 12] = [
+        (entry(3, 3, 9, large), 3),
+        (entry(0, 3, 4, large), 5),
+        (entry(0, 0, 1, large), 12),
+        (entry(0, 3, 1, large), 12),
+        (entry(0, 1, 1, large), 13),
+        (entry(0, 1, 1, 201), 14),
+        (entry(0, 1, 1, 100), 14),
+        (entry(0, 1, 2, 99), 15),
+        (entry(0, 1, 2, 201), 15),
+        (entry(0, 1, 0, 101), 15),
+        (entry(0, 1, 2, 200), 16),
+        (entry(2, 2, 0, 0), 16),
+    ];
+    all_refused(rt.alloc(), &cases)
+}
+
+#[test]
+fn strikes(rt: LibcRuntime) -> Result<(), Fail> {
+    let cases: [(Call, u8); 4] = [
+        (striking(3, 3, 9), 3),
+        (striking(0, 3, 4), 5),
+        (striking(0, 3, 1), 12),
+        (striking(0, 2, 1), 17),
     ];
     all_refused(rt.alloc(), &cases)
 }
