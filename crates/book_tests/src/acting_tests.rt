@@ -126,46 +126,23 @@ fn modified_and_corrected(rt: LibcRuntime) -> Result<(), Fail> {
     )
 }
 
+fn entry(dial: u8, day: u8, value: u32) -> Call {
+    Call::Enter {
+        site: 0,
+        dial,
+        day,
+        value,
+    }
+}
+
 #[test]
 fn struck_and_entered_again_in_a_full_book(rt: LibcRuntime) -> Result<(), Fail> {
     let mut book = new_book(rt.alloc())?;
-    let second = Call::Enter {
-        site: 0,
-        dial: 1,
-        day: 3,
-        value: 7,
-    };
-    made(
-        &mut book,
-        &[
-            Call::Enter {
-                site: 0,
-                dial: 1,
-                day: 0,
-                value: 7,
-            },
-            second,
-        ],
-    )?;
+    made(&mut book, &[entry(1, 0, 7), entry(1, 3, 7)])?;
     check_eq(book.free_index_places(), Some(0))?;
-    made(
-        &mut book,
-        &[Call::Strike {
-            site: 0,
-            dial: 1,
-            day: 3,
-        }],
-    )?;
+    check(book.strike(0, 1, 3).is_ok())?;
     check(book.index_standing(0, 1, 3).is_none())?;
     check(book.index_standing(0, 1, 0).is_some())?;
-    made(
-        &mut book,
-        &[Call::Enter {
-            site: 0,
-            dial: 2,
-            day: 3,
-            value: 999_999_999,
-        }],
-    )?;
+    made(&mut book, &[entry(2, 3, 999_999_999)])?;
     check_eq(book.free_index_places(), Some(0))
 }
