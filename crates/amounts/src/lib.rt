@@ -1,4 +1,6 @@
 // Kinds of amount: what a cell of a sheet holds. docs/amounts.md has the rules.
+#![tactic(auto)]
+
 ghost use Rattle.std.specs.Prelude.{◌≡◌, ℕ, ◌≤◌, ℤ};
 ghost use Rattle.amounts.specs.Laws.{Joining, TakingOff, Small};
 

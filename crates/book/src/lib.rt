@@ -1,6 +1,8 @@
 // The book of sites: who was served where, on whose account and at what power, and which indexes stand. It is changed by
 // six calls only; what it holds after any of them is told by the calls alone (crate book_rules). docs/book.md has the
 // rules.
+#![tactic(auto)]
+
 mod acts;
 mod by_day;
 pub mod calls;

@@ -1,6 +1,8 @@
 // What a book of sites knows: situations, indexes, the six calls that change them; and what a book holds after any
 // calls, told from the calls alone (specs/). No storage and no search: those are the crates above. docs/book.md has the
 // rules.
+#![tactic(auto)]
+
 ghost use Rattle.std.specs.Prelude.{◌≡◌};
 ghost use Rattle.book_rules.specs.declared.SetUpError.TheVariants.{OutOfMemory};
 ghost use Rattle.book_rules.specs.Laws.{TellsOne, AlwaysOrderly, TestsRule};

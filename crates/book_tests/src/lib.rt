@@ -1,4 +1,5 @@
 // Tests of the book. Expected answers were worked out by hand from the rules.
+#![tactic(auto)]
 
 #[cfg(test)]
 mod acting_tests;

@@ -1,5 +1,7 @@
 // The calendar of the load profiles: dates from 1 January 2001 to 31 December 2099, their year, month and day, and their
 // place in the profile year. docs/calendar.md has the rules.
+#![tactic(auto)]
+
 ghost use Rattle.std.specs.Prelude.{◌≡◌, ◌+◌, ◌-◌, ◌<◌, ◌≤◌, true, false, if◌then◌else◌, Some, None, nat_le};
 ghost use Rattle.calendar.specs.Dates.{leap, date_of, civil_of, in_calendar, begun, new_year, year_of, day_of_year, month_of, day_of_month, month_length, days_before_month};
 ghost use Rattle.calendar.specs.Places.{named, holiday, summer_holiday, bridging, weekday, week_of, day_counted, place_of};

@@ -1,4 +1,6 @@
 // The coefficient source: weights by week, day and half-hour of the day. docs/sources.md has the rule.
+#![tactic(auto)]
+
 ghost use Rattle.std.specs.Prelude.{◌≡◌, ℕ, ◌+◌, ◌*◌, ◌/◌, ◌%◌, ◌<◌, ◌≤◌, length, slice_index_or};
 
 use calendar::Place;

@@ -1,5 +1,7 @@
 // curve: reads two readings of one dial from standard input and prints the energy of each half-hour between them. Without
 // arguments every half-hour weighs the same; with a coefficient file, a sub-profile and holidays it shares by those.
+#![tactic(auto)]
+
 use anyhow::anyhow;
 use arguments::Weighting;
 use calendar::civil_date;

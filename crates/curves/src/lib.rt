@@ -1,4 +1,6 @@
 // The half-hourly curve of a dial, and the usage factor of its span around a day. docs/spans.md has the rules.
+#![tactic(auto)]
+
 ghost use Rattle.std.specs.Prelude.{◌≡◌, ◌*◌, ◌<◌, ◌≤◌, length, IfNone};
 ghost use Rattle.book.specs.Books.{setup, contents, ruled};
 ghost use Rattle.book_rules.specs.Tests.{first as first_test};

@@ -1,4 +1,6 @@
 // Threshold sets and usage factors. docs/factors.md has the rules.
+#![tactic(auto)]
+
 ghost use Rattle.std.specs.Prelude.{ℕ, ◌<◌, ◌≤◌, slice_index};
 
 pub mod sets;

@@ -1,5 +1,7 @@
 // The judgement on a span: to whose account its energy goes, and by which weights it is shared. docs/spans.md has the
 // rules.
+#![tactic(auto)]
+
 ghost use Rattle.std.specs.Prelude.{◌≡◌, ℕ, ◌-◌, ◌*◌, ◌<◌, ◌≤◌, IfOk, slice_index};
 ghost use Rattle.book.specs.Books.{contents};
 ghost use Rattle.span_rules.specs.Days.{metering};

@@ -1,1 +1,2 @@
 // No code: lemmas that the proofs of several crates share, in proofs/.
+#![tactic(auto)]

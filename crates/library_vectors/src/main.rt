@@ -1,6 +1,8 @@
 // library_vectors: runs whole cases from outside, in data/library.txt, and holds what the crates answer against them. It
 // prints a line for each case and ends with an error where anything differs. So far it reads the lines on the calendar,
 // on weights and on calls; those on sheets, curves and factors are passed over.
+#![tactic(auto)]
+
 use anyhow::anyhow;
 use book::store::Book;
 use calendar::place_of;

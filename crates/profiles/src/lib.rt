@@ -1,4 +1,6 @@
 // The load profiles and their sub-profiles. docs/profiles.md has the table.
+#![tactic(auto)]
+
 ghost use Rattle.std.specs.Prelude.{◌≡◌};
 ghost use Rattle.profiles.specs.Table.{profileOf, subProfileOf, SubProfilesApart};
 

@@ -1,4 +1,6 @@
 // Readings of one dial from lines of text, and the curve between two of them.
+#![tactic(auto)]
+
 ghost use Rattle.std.specs.Prelude.{◌≡◌, ◌+◌, ◌-◌, ◌*◌, ◌<◌, ◌≤◌, length};
 ghost use Rattle.readings.specs.Lines.{reading_shaped, of_fields, reading_of};
 ghost use Rattle.sharing.specs.Shares.{total as figures_total};

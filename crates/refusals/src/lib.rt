@@ -1,5 +1,7 @@
 // Why a call is refused: one enum for the whole product. Every refusal has a number, and where several conditions hold
 // the one with the lowest number answers. docs/refusals.md has the list with its conditions.
+#![tactic(auto)]
+
 ghost use Rattle.std.specs.Prelude.{◌≡◌};
 ghost use Rattle.refusals.specs.Numbers.{number_of, Numbered};
 

@@ -1,4 +1,6 @@
 // A book replayed: set up, and a list of calls made in turn, past the refused ones. docs/book.md has the rules.
+#![tactic(auto)]
+
 ghost use Rattle.std.specs.Prelude.{◌≡◌};
 ghost use Rattle.replay.specs.Replaying.{Replayed};
 

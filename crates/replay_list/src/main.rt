@@ -1,5 +1,7 @@
 // replay_list: reads a set-up and calls from standard input, replays them and prints the answer to each call and what the
 // book then holds. docs/book.md has the form of a line.
+#![tactic(auto)]
+
 use anyhow::anyhow;
 use book::store::Book;
 use book_rules::{Call, SetUp, SetUpError};

@@ -1,5 +1,7 @@
 // Sharing the energy between two indexes over the half-hours between them, by their weights. docs/sharing.md has the
 // rule. The laws of the running share are named in specs/Laws.antt; whatever is built on it uses those alone.
+#![tactic(auto)]
+
 ghost use Rattle.std.specs.Prelude.{◌≡◌, ℕ, ◌+◌, ◌-◌, ◌*◌, ◌<◌, ◌≤◌, min, true, ◌&&◌, length, if◌then◌else◌, Some, None, MatchOption, OnSome, ◌≢◌};
 ghost use Rattle.sharing.specs.Shares.{before, running_share, weighed, total, weighable, divisible, shared_over, Figures};
 ghost use Rattle.sharing.specs.Laws.{RunningLaws, Fair, EverySpanFair};

@@ -1,4 +1,6 @@
 // The balance sheet of a book: energies by half-hour and balance party, and by anomaly. docs/sheet.md has the rules.
+#![tactic(auto)]
+
 ghost use Rattle.std.specs.Prelude.{◌≡◌, ◌+◌, ◌*◌, ◌<◌, ◌≤◌, length, IfNone};
 ghost use Rattle.book.specs.Books.{setup, contents, ruled};
 ghost use Rattle.book_rules.specs.Tests.{first as first_test};

@@ -1,5 +1,7 @@
 // The rules on sheets: which dials have a piece in a cell, and what makes a sheet an account (specs/). No table and no
 // drawing: those are the crates above. docs/sheet.md has the rules.
+#![tactic(auto)]
+
 ghost use Rattle.sheet_rules.specs.Laws.{OneSheet};
 
 use amounts::Amount;

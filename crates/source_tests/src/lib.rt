@@ -1,5 +1,6 @@
 // Tests of profile sources, kinds of amount, threshold sets and usage factors. Expected values were worked out by hand
 // from the rules.
+#![tactic(auto)]
 
 #[cfg(test)]
 mod amount_tests;

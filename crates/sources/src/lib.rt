@@ -1,4 +1,6 @@
 // Profile sources: where the weights of half-hours come from. docs/sources.md has the rules.
+#![tactic(auto)]
+
 ghost use Rattle.std.specs.Prelude.{◌≡◌, ℕ, ◌<◌, ◌≤◌, IfSome};
 ghost use Rattle.sources.specs.Meaning.{Short, Light, answer, coverable};
 

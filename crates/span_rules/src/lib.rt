@@ -1,6 +1,8 @@
 // The rules on spans: between which indexes of a dial its energy lies, which anomaly keeps it from a party, by which
 // weights it is shared; and what follows from them for every dial (specs/). No storage and no search: those are the
 // crates above. docs/spans.md has the rules.
+#![tactic(auto)]
+
 ghost use Rattle.span_rules.specs.Laws.{Covering, OneJudgement, HalfHoursInSpans, AddsUp, SpansFair};
 
 // The situation of a day is the one that covers it.

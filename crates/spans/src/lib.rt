@@ -1,5 +1,7 @@
 // The spans of a dial as a book holds them, and what decides on the energy of one: the situation of its days, the
 // sub-profile of the dial, and the anomaly that keeps the energy from a party. docs/spans.md has the rules.
+#![tactic(auto)]
+
 ghost use Rattle.std.specs.Prelude.{◌≡◌};
 ghost use Rattle.spans.specs.Numbers.{number_of};
 

@@ -1,4 +1,5 @@
 // The temperature layer: a source over any other, whose weights follow the temperature. docs/sources.md has the rule.
+#![tactic(auto)]
 
 pub mod layer;
 mod loading;

@@ -1,4 +1,6 @@
 // Numbers and dates as a line of text has them.
+#![tactic(auto)]
+
 ghost use Rattle.std.specs.Prelude.{◌≡◌, ◌^◌, ◌<◌, length, IfSome};
 ghost use Rattle.text_fields.specs.Fields.{digit, decimalOf, day_shaped, dayOf};
 

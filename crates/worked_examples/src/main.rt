@@ -1,5 +1,7 @@
 // worked_examples: holds what the calendar answers against tables from outside, prints each row with what it got, and
 // ends with an error where one differs. The special days of 2005 are in data/special-days-2005.csv.
+#![tactic(auto)]
+
 use anyhow::anyhow;
 use calendar::{Place, civil_date, date_on, place_of};
 use std::alloc::{AllocError, Global};
