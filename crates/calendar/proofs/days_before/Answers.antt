@@ -6,6 +6,6 @@ pub returns-then-month-gt2 : goal.returns-then-month-gt2
 unfolding days_before_month
 returns-then-month-gt2 c = search rules
 
-pub returns-else-is-leap : goal.returns-else-is-leap
+pub returns-else-is_leap : goal.returns-else-is_leap
 unfolding days_before_month
-returns-else-is-leap c = search rules
+returns-else-is_leap c = search rules

@@ -22,18 +22,18 @@ loop-t-preserved c =
     let ws = c.args.weights.now in let w = weighed ws in let n = length ws in let t = c.loop-t.t in
     let lt : t < length c.loop-t.figures = omega (arith, c.loop-t.auto.figures) in
     let all = (some_when (weighable ws) (total ws) c.in-Some.all c.in-Some.ensures).1 in
-    let f = c.next-figure.ensures in
+    let f = c.next_figure.ensures in
     let next = behind_next w n t (omega arith) in
     let energy_is = c.loop-t.invariant.0 in
     let all_is = c.loop-t.invariant.1 in
     let behind_is = c.loop-t.invariant.2 in
-    let moved : c.next-figure.new.self.behind ≡ before w (t + 1) = f.behind ∙ cc in
-    let here : c.next-figure.result ≡ figure c.args.energy w n t = f.figure ∙ (cc (figure_is c.args.energy w n t)) in (
+    let moved : c.next_figure.new.self.behind ≡ before w (t + 1) = f.behind ∙ cc in
+    let here : c.next_figure.result ≡ figure c.args.energy w n t = f.figure ∙ (cc (figure_is c.args.energy w n t)) in (
       f.same.0 ∙ energy_is,
       f.same.1 ∙ all_is,
       moved,
-      set_more (figure c.args.energy w n) c.loop-t.figures 0 c.next-figure.result t lt here c.loop-t.invariant.3,
-      (λ k h. set_past c.loop-t.figures 0 c.next-figure.result t k h ∙ c.loop-t.invariant.4 k (omega arith)),
+      set_more (figure c.args.energy w n) c.loop-t.figures 0 c.next_figure.result t lt here c.loop-t.invariant.3,
+      (λ k h. set_past c.loop-t.figures 0 c.next_figure.result t k h ∙ c.loop-t.invariant.4 k (omega arith)),
     )
 
 pub returns : goal.returns

@@ -8,8 +8,8 @@ use Rattle.sharing.proofs.total_weight.Goals as goal
 pub loop-weight-init : goal.loop-weight-init
 loop-weight-init c = (sym (before_none (weighed c.args.weights.now)), omega arith, refl)
 
-pub returns-then-weight-gt-MOST-WEIGHT : goal.returns-then-weight-gt-MOST-WEIGHT
-returns-then-weight-gt-MOST-WEIGHT c =
+pub returns-then-weight-gt-MOST_WEIGHT : goal.returns-then-weight-gt-MOST_WEIGHT
+returns-then-weight-gt-MOST_WEIGHT c =
     let ws = c.args.weights.now in let i = c.loop-weight.weight-index in
     let heavy = every_fails light ws i c.loop-weight.invariant.2 0 (omega arith) (lt-leb (get_or ws i 0) 1000000 (omega arith)) in
     search rules
