@@ -14,7 +14,7 @@ pub begun_more : (f : ℕ → ℕ) (q n : ℕ) → begun f q (n + 1) ≡ begun f
 unfolding begun
 begun_more f q n = rw add-one
 
-pub named_is : (hs : List ℕ) (x : ℕ) (r : Bool) → IsAnyAnswer (λ y t. Decides t (y ≡ x)) hs r → r ≡ named hs x
+pub named_is : (hs : List ℕ) (x : ℕ) (r : Bool) → IsAnyAnswer (λ y t. eqb y x ≡ t) hs r → r ≡ named hs x
 named_is hs x r h =
     same_from_decides r (named hs x) (contains_decides eqb Decides-eqb hs x r h)
     (Decides-by_or (λ y. eqb y x) (λ y. y ≡ x) (λ ys. named ys x) (λ y. Decides-eqb y x) refl (λ _ _. refl) hs)
