@@ -25,7 +25,7 @@ loop-call-preserved c =
 
 pub returns : goal.returns
 returns c =
-    let b = c.loop-call.book in let calls = c.args.calls.now in let x = c.args.set-up in let rs = vec_items c.loop-call.answers in
+    let b = c.loop-call.book in let calls = c.args.calls.now in let x = c.args.set_up in let rs = vec_items c.loop-call.answers in
     let fresh = c.in-ok-book.ensures in
     let told = subst (λ (u : Setup). Told u [] (contents c.in-ok-book.book)) (sym fresh.1.0) fresh.1.1 in
     let all = subst (λ (l : List Call). Answered (setup c.in-ok-book.book) l rs (contents b)) (take_all _ calls c.loop-call-test.false) (c.loop-call.invariant.1 told) in
