@@ -1,5 +1,5 @@
 -- Weights by coefficients: of the week (CS), of the day (CJ) and of the half-hour of the day (CH), in thousandths.
-use Rattle.std.specs.Prelude.{◌≡◌, ℕ, ◌+◌, ◌-◌, ◌*◌, ◌/◌, ◌%◌, ◌<◌, ◌≤◌, min, Bool, cond, ◌&&◌, List, length, nat_le, slice_index}
+use Rattle.std.specs.Prelude.{ℕ, ◌+◌, ◌-◌, ◌*◌, ◌/◌, ◌%◌, min, Bool, cond, ◌&&◌, List, length, nat_le, slice_index}
 use Rattle.calendar.specs.declared.Place.{Place}
 use Rattle.calendar.specs.Places.{place_at}
 

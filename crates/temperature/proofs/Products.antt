@@ -1,5 +1,5 @@
 -- Signed numbers of the layer: differences and products that fit. Assumes nothing.
-use Rattle.std.proofs.Common.{◌≡◌, ℕ, suc, ◌+◌, ◌*◌, ◌<◌, ◌≤◌, ℤ, pos, negsuc, ◌-ℤ◌, ◌*ℤ◌, ◌≤ℤ◌, le_trans, mul-le-mul_left, arith, w16, w32, w64, SFits, to_z, of_z}
+use Rattle.std.proofs.Common.{◌≡◌, ℕ, suc, ◌*◌, ◌<◌, ◌≤◌, ℤ, pos, negsuc, ◌-ℤ◌, ◌*ℤ◌, ◌≤ℤ◌, le_trans, mul-le-mul_left, arith, w16, w32, w64, SFits, to_z, of_z}
 use lib.IntN.{pos-*ℤ-negsuc}
 use Rattle.std.proofs.lemmas.Int.{ints, to_z-of_z}
 use Rattle.temperature.specs.Adjusting.{scaled}

@@ -1,4 +1,4 @@
-use Rattle.std.proofs.Common.{◌≡◌, ℕ, ◌+◌, ◌<◌, leb, length, get_or, ◌∙◌, arith, rules}
+use Rattle.std.proofs.Common.{◌+◌, leb, ◌∙◌, arith}
 use Rattle.lemmas.proofs.Options.{some_when}
 use Rattle.lemmas.proofs.Writes.{set_more}
 use Rattle.std.proofs.lemmas.List.{length-set}

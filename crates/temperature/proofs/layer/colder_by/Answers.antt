@@ -1,7 +1,6 @@
-use Rattle.std.proofs.Common.{◌≡◌, ℤ, ◌-ℤ◌, sym, ap, ◌∙◌, subst, w16, SFits, rules}
+use Rattle.std.proofs.Common.{◌≡◌, ◌-ℤ◌, sym, ap, ◌∙◌, subst, w16, SFits, rules}
 use Rattle.std.specs.Int.{int_min}
 use Rattle.std.proofs.lemmas.Int.{to_z-of_z}
-use Rattle.temperature.specs.Adjusting.{colder}
 use Rattle.temperature.proofs.Products.{Difference, wide_less, less_bound}
 use Rattle.temperature.proofs.layer.colder_by.Goals as goal
 
