@@ -38,7 +38,7 @@ fn ruling<S: ProfileSource>(book: &Book, source: &S, places: usize) -> Option<Re
 }
 
 // Draws the sheet of a book into a table: its rows are the parties, then A1 to A5, and the cell of row r, half-hour t
-// stands at place typeof.r.T + t, with T half-hours. Further places stay. Answers the mark of the drawing.
+// stands at place r·T + t, with T half-hours. Further places stay. Answers the mark of the drawing.
 pub fn draw<K: Amount + Copy, S: ProfileSource>(
     book: &Book,
     source: &S,
