@@ -19,7 +19,7 @@ use spans::finding::span_beginning;
 // Makes the first cells nil.
 pub(crate) fn clear<K: Amount + Copy>(cells: &mut [K], count: usize)
     requires { count ≤ length cells.old }
-    ensures { Cleared holds nil count cells.old cells.new }
+    ensures { Cleared K.holds K.nil count cells.old cells.new }
 {
     for p in 0..count {
         cells[p] = K::none();
@@ -58,9 +58,9 @@ fn draw_span<K: Amount + Copy, S: ProfileSource>(
     requires forward { span.from < span.to }
     requires within { span.to ≤ (setup book.now).days }
     requires dials { (1 ≤ dial) × (dial ≤ 2) }
-    requires covered { half_hours (setup book.now) ≤ covers source.now }
+    requires covered { half_hours (setup book.now) ≤ S.covers source.now }
     requires places { rows (setup book.now) * half_hours (setup book.now) ≤ length cells.old }
-    ensures { SpanDrawn holds size piece joined (setup book.now).parties (rows (setup book.now)) (half_hours (setup book.now)) (metering (contents book.now) (weighs source.now) thresholds.now site dial) span.from span.to span.energy cells.old cells.new }
+    ensures { SpanDrawn K.holds K.size K.piece K.joined (setup book.now).parties (rows (setup book.now)) (half_hours (setup book.now)) (metering (contents book.now) (S.weighs source.now) thresholds.now site dial) span.from span.to span.energy cells.old cells.new }
 {
     let judgement = judge(book, source, thresholds, site, dial, span, weights);
     let row = row_of(book.parties(), judgement.account);
@@ -92,9 +92,9 @@ fn draw_dial<K: Amount + Copy, S: ProfileSource>(
     cells: &mut [K],
 )
     requires dials { (1 ≤ dial) × (dial ≤ 2) }
-    requires covered { half_hours (setup book.now) ≤ covers source.now }
+    requires covered { half_hours (setup book.now) ≤ S.covers source.now }
     requires places { rows (setup book.now) * half_hours (setup book.now) ≤ length cells.old }
-    ensures { DialDrawn holds size piece joined (setup book.now).parties (rows (setup book.now)) (half_hours (setup book.now)) (metering (contents book.now) (weighs source.now) thresholds.now site dial) (setup book.now).days (setup book.now).days cells.old cells.new }
+    ensures { DialDrawn K.holds K.size K.piece K.joined (setup book.now).parties (rows (setup book.now)) (half_hours (setup book.now)) (metering (contents book.now) (S.weighs source.now) thresholds.now site dial) (setup book.now).days (setup book.now).days cells.old cells.new }
 {
     for day in 0..book.days() {
         if let Some(span) = span_beginning(book, site, dial, day) {
@@ -110,9 +110,9 @@ pub(crate) fn draw_dials<K: Amount + Copy, S: ProfileSource>(
     thresholds: &Thresholds,
     cells: &mut [K],
 )
-    requires covered { half_hours (setup book.now) ≤ covers source.now }
+    requires covered { half_hours (setup book.now) ≤ S.covers source.now }
     requires places { rows (setup book.now) * half_hours (setup book.now) ≤ length cells.old }
-    ensures { DialsDrawn holds nil piece joined energy (setup book.now) (contents book.now) (weighs source.now) thresholds.now cells.old cells.new }
+    ensures { DialsDrawn K.holds K.nil K.piece K.joined K.energy (setup book.now) (contents book.now) (S.weighs source.now) thresholds.now cells.old cells.new }
 {
     let mut weights = [0u32; 1680];
     for site in 0..book.sites() {

@@ -7,7 +7,7 @@ use sharing::Sharing;
 
 // A cell with one piece more.
 fn with_piece<K: Amount>(cell: K, wh: u32, dial: u8) -> K
-    ensures { wh ≤ 999999999 → 1 ≤ dial → dial ≤ 2 → Room (size (holds cell)) → holds result ≡ joined (holds cell) (piece wh dial) }
+    ensures { wh ≤ 999999999 → 1 ≤ dial → dial ≤ 2 → Room (K.size (K.holds cell)) → K.holds result ≡ K.joined (K.holds cell) (K.piece wh dial) }
 {
     cell.join(K::of(wh, dial))
 }
@@ -25,7 +25,7 @@ pub(crate) fn join_out<K: Amount + Copy>(
     cells: &mut [K],
 )
     requires { (first ≤ end) × ((end ≤ 1680) × (base + end ≤ length cells.old)) }
-    ensures { JoinedOut holds size piece joined energy all (λ t. slice_index weights.now t) first end dial base cells.old cells.new }
+    ensures { JoinedOut K.holds K.size K.piece K.joined energy all (λ t. slice_index weights.now t) first end dial base cells.old cells.new }
 {
     let Some(mut sharing) = Sharing::over(energy, all) else {
         return;

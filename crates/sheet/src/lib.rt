@@ -24,8 +24,8 @@ mod tallies;
 
 // Why a sheet is not drawn, if it is not.
 fn ruling<S: ProfileSource>(book: &Book, source: &S, places: usize) -> Option<Refusal>
-    ensures value { ruled result ≡ first_test (draw_tests (setup book.now) (covers source.now) places) }
-    ensures known { IfNone result ((rows (setup book.now) * half_hours (setup book.now) ≤ places) × (covers source.now ≡ half_hours (setup book.now))) }
+    ensures value { ruled result ≡ first_test (draw_tests (setup book.now) (S.covers source.now) places) }
+    ensures known { IfNone result ((rows (setup book.now) * half_hours (setup book.now) ≤ places) × (S.covers source.now ≡ half_hours (setup book.now))) }
 {
     let half_hours = 48 * book.days() as usize;
     if places < (book.parties() as usize + 5) * half_hours {
@@ -45,7 +45,7 @@ pub fn draw<K: Amount + Copy, S: ProfileSource>(
     thresholds: &Thresholds,
     cells: &mut [K],
 ) -> Result<DrawnMark, Refusal>
-    ensures { DrawAnswer holds nil piece joined energy (setup book.now) (contents book.now) (covers source.now) (weighs source.now) thresholds.now (length cells.old) cells.old result cells.new }
+    ensures { DrawAnswer K.holds K.nil K.piece K.joined K.energy (setup book.now) (contents book.now) (S.covers source.now) (S.weighs source.now) thresholds.now (length cells.old) cells.old result cells.new }
 {
     if let Some(refusal) = ruling(book, source, cells.len()) {
         return Err(refusal);

@@ -16,7 +16,7 @@ fn wide_add(sum: i128, energy: i64) -> i128
 // The energies that a table of rows and half-hours tells, added.
 pub(crate) fn sum_told<K: Amount>(cells: &[K], rows: usize, half_hours: usize) -> i128
     requires { (rows * half_hours ≤ length cells.now) × ((rows ≤ 21) × (half_hours ≤ 1680)) }
-    ensures { (d : K) → result ≡ table_sum (λ x. energy (holds x)) rows half_hours cells.now d }
+    ensures { (d : K) → result ≡ table_sum (λ x. K.energy (K.holds x)) rows half_hours cells.now d }
 {
     let mut sum = 0i128;
     for p in 0..rows * half_hours {
