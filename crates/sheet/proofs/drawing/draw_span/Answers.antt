@@ -9,8 +9,8 @@ use Rattle.sheet_rules.proofs.Cells.{row_before, row_drawn, no_row}
 use Rattle.sheet.proofs.Rulings.{its_row}
 use Rattle.sheet.proofs.drawing.draw_span.Goals as goal
 
-pub join-out-requires : goal.join-out-requires
-join-out-requires g c = ?
+pub join_out-requires : goal.join_out-requires
+join_out-requires g c = ?
 
 pub returns-then-row-parties : goal.returns-then-row-parties
 returns-then-row-parties g c = ?

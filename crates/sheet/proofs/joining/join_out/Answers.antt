@@ -21,10 +21,10 @@ loop-t-init g c =
 
 pub loop-t-preserved : goal.loop-t-preserved
 loop-t-preserved g c =
-    let k = g.K.Amount in let i = c.loop-t.invariant in let f = c.next-figure-figure.ensures in
+    let k = g.K.Amount in let i = c.loop-t.invariant in let f = c.next_figure-figure.ensures in
     let e = c.args.energy in let first = c.args.first in let end = c.args.end in let t = c.loop-t.t in
     let w : ℕ → ℕ = λ j. get_or c.args.weights.now j 0 in
-    let after = c.next-figure-figure.new.self.behind in let given = c.next-figure-figure.result in
+    let after = c.next_figure-figure.new.self.behind in let given = c.next_figure-figure.result in
     let room : c.args.base + t < length c.loop-t.cells = omega arith in
     let more : t - first + 1 ≡ t + 1 - first = omega arith in
     let step : c.args.all ≡ before (from w first) (end - first) → Stepped e (from w first) (end - first) (t - first) after given =
@@ -42,9 +42,9 @@ loop-t-preserved g c =
           i.3,
     )
 
-pub returns-in-default : goal.returns-in-default
-returns-in-default g c = record {
-  here = λ small some light whole least most i lt d space. absurd (c.in-default.ensures (and_from _ _ (and_from _ _ (le-leb _ _ small) (lt-ltb _ _ some)) (le-leb _ _ light)));
+pub returns-in_default : goal.returns-in_default
+returns-in_default g c = record {
+  here = λ small some light whole least most i lt d space. absurd (c.in_default.ensures (and_from _ _ (and_from _ _ (le-leb _ _ small) (lt-ltb _ _ some)) (le-leb _ _ light)));
   other = λ p out d. refl;
 }
 

@@ -13,26 +13,26 @@ loop-p-init g c = ((λ d. sym (sum_none _)), omega arith)
 pub loop-p-preserved : goal.loop-p-preserved
 loop-p-preserved g c =
     let f = λ (x : g.row.K.Denot). g.K.Amount.energy (g.K.Amount.holds x) in
-    let r = c.wide-add-sum.result in
+    let r = c.wide_add-sum.result in
     let xs = c.args.cells.now in
     let i = c.loop-p.p in
     let fr : SFits w128 r = search rules in
-    let fe : SFits w64 c.energy-told.result = search rules in
+    let fe : SFits w64 c.energy_told.result = search rules in
     let back : to_z w128 (of_z w128 r) ≡ r = simp to_z-of_z in
-    let is = simp to_z-of_z at c.wide-add-sum.ensures in
+    let is = simp to_z-of_z at c.wide_add-sum.ensures in
     let room : i < length xs = omega arith in
-    let cell : (d : g.row.K.Denot) → c.energy-told.result ≡ f (get_or xs i d) = λ d. c.energy-told.ensures ∙ ap f (get_or_read xs i _ room c.index-cells-p.is d) in
-    let small : nat_abs c.energy-told.result ≤ 2 ^ 63 = omega (arith, ints) in (
-      (λ d. back ∙ (is ∙ (ap (λ z. z +ℤ c.energy-told.result) (c.loop-p.invariant.0 d) ∙ (ap (λ z. sum_before (λ p. f (get_or xs p d)) i +ℤ z) (cell d) ∙ sym (sum_more (λ p. f (get_or xs p d)) i))))),
-      subst (λ z. nat_abs z ≤ 2 ^ 63 * (i + 1)) (sym (back ∙ is)) (abs_more _ c.energy-told.result i c.loop-p.invariant.1 small),
+    let cell : (d : g.row.K.Denot) → c.energy_told.result ≡ f (get_or xs i d) = λ d. c.energy_told.ensures ∙ ap f (get_or_read xs i _ room c.index-cells-p.is d) in
+    let small : nat_abs c.energy_told.result ≤ 2 ^ 63 = omega (arith, ints) in (
+      (λ d. back ∙ (is ∙ (ap (λ z. z +ℤ c.energy_told.result) (c.loop-p.invariant.0 d) ∙ (ap (λ z. sum_before (λ p. f (get_or xs p d)) i +ℤ z) (cell d) ∙ sym (sum_more (λ p. f (get_or xs p d)) i))))),
+      subst (λ z. nat_abs z ≤ 2 ^ 63 * (i + 1)) (sym (back ∙ is)) (abs_more _ c.energy_told.result i c.loop-p.invariant.1 small),
     )
 
 -- a table has no more than 21 rows of 1,680 half-hours
 few : (rows hs : ℕ) → rows ≤ 21 → hs ≤ 1680 → rows * hs ≤ 21 * 1680
 few rows hs a b = mul-le-mul a b
 
-pub wide-add-sum-requires : goal.wide-add-sum-requires
-wide-add-sum-requires g c =
+pub wide_add-sum-requires : goal.wide_add-sum-requires
+wide_add-sum-requires g c =
     let most = few c.args.rows c.args.half_hours c.requires.1.0 c.requires.1.1 in
     omega (arith, c.loop-p.invariant.1, c.loop-p-test.true)
 
