@@ -1,12 +1,10 @@
 -- Every history tells one content. Assumes nothing.
-use Rattle.std.proofs.Common.{◌≡◌, ℕ, ◌+◌, ◌<◌, ◌≤◌, cond, ◌&&◌, eqb, List, [], ◌∷◌, ◌++◌, length, Some, None, Option, sym, refl, ap, ◌∙◌, subst, arith, length-append}
+use Rattle.std.proofs.Common.{◌≡◌, ℕ, cond, ◌&&◌, eqb, List, [], ◌∷◌, ◌++◌, length, Some, None, Option, sym, refl, ap, ◌∙◌, subst, arith, length-append}
 use mathlib.Core.Path.{fun_ext}
 use Rattle.std.proofs.lemmas.List.{same_from_push}
 use Rattle.book_rules.specs.declared.Situation.{Situation}
 use Rattle.book_rules.specs.declared.Call.{Call}
-use Rattle.book_rules.specs.declared.Call.TheVariants.{Open, Modify, End, Correct, Enter, Strike}
-use Rattle.book_rules.specs.Contents.{Setup, Contents, Last}
-use Rattle.book_rules.specs.Refusing.{Applies}
+use Rattle.book_rules.specs.Contents.{Setup, Contents}
 use Rattle.book_rules.specs.Telling.{Acts, opens, modifies, ends, corrects, enters, strikes, begun, ended_on, Step, Empty, Told, at_first, after}
 use Rattle.book_rules.proofs.Keys.{same_some}
 use Rattle.book_rules.proofs.Standings.{last_once}

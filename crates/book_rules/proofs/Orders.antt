@@ -1,5 +1,5 @@
 -- After any calls situations and indexes are in order. Assumes nothing.
-use Rattle.std.proofs.Common.{◌≡◌, ℕ, ◌+◌, ◌<◌, ◌≤◌, Bool, true, false, cond, ◌&&◌, eqb, ◌⊎◌, List, [], ◌∷◌, ◌++◌, Some, None, Err, Option, sym, refl, ap, ◌∙◌, subst, inl, inr, ⊎_elim, arith}
+use Rattle.std.proofs.Common.{◌≡◌, ℕ, ◌<◌, ◌≤◌, Bool, true, false, cond, ◌&&◌, eqb, ◌⊎◌, Some, None, Err, Option, sym, refl, ap, ◌∙◌, subst, inl, inr, ⊎_elim, arith}
 use mathlib.Core.Path.{fun_ext}
 use Rattle.std.proofs.lemmas.Bool.{cases_lt, cases_eq, cases_Bool, eq-eqb, ne_eqb, eqb-true, cond-true, cond-false, and_left, and_right, and_parts}
 use Rattle.refusals.specs.declared.Refusal.TheVariants.{NoSuchProfile}
@@ -8,15 +8,14 @@ use Rattle.book_rules.specs.declared.Terms.{Terms}
 use Rattle.book_rules.specs.declared.Situation.{Situation}
 use Rattle.book_rules.specs.declared.Index.{Index}
 use Rattle.book_rules.specs.declared.Standing.{Standing}
-use Rattle.book_rules.specs.declared.Standing.TheVariants.{Never, Running, Ended}
 use Rattle.book_rules.specs.declared.Call.{Call}
-use Rattle.book_rules.specs.declared.Call.TheVariants.{Open, Modify, End, Correct, Enter, Strike}
+use Rattle.book_rules.specs.declared.Call.TheVariants.{Open}
 use Rattle.book_rules.specs.Contents.{Setup, Contents, Last, Stands, never, running, ended}
 use Rattle.book_rules.specs.Refusing.{Applies, no_site, no_party, no_day, no_profile, open_running, modify_ended, open_early, modify_early, end_early, end_again_early, no_dial, enter_large, enter_below, enter_above}
-use Rattle.book_rules.specs.Telling.{Situated, Indexed, SameSituations, SameIndexes, Acts, opens, modifies, ends, corrects, enters, strikes, begun, ended_on, Step, Empty, Told, at_first, after}
+use Rattle.book_rules.specs.Telling.{Situated, Indexed, SameSituations, SameIndexes, Acts, opens, modifies, ends, corrects, enters, strikes, begun, ended_on, at_first, after}
 use Rattle.book_rules.specs.Laws.{Chain, Track, KnownSituation, KnownDial, Orderly, AlwaysOrderly}
 use Rattle.book_rules.specs.Tests.{standing_by}
-use Rattle.book_rules.proofs.Keys.{not_none, same_some, Changed, changed_by, look}
+use Rattle.book_rules.proofs.Keys.{not_none, same_some, Changed, changed_by}
 use Rattle.book_rules.proofs.Chains.{Free, chain_open, chain_end, free_after, chain_correct, free_ended, track_enter, track_strike, chain_none, track_none}
 use Rattle.book_rules.proofs.Standings.{stands_by}
 

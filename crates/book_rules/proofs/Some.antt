@@ -1,10 +1,8 @@
 -- Every history tells some content. Assumes nothing.
-use Rattle.std.proofs.Common.{◌≡◌, ℕ, ◌+◌, ◌-◌, ◌<◌, ◌≤◌, cond, ◌&&◌, eqb, List, [], ◌∷◌, ◌++◌, Some, None, Option, sym, refl, ap, ◌∙◌, subst, append_assoc, append-nil, arith}
-use Rattle.book_rules.specs.declared.Terms.{Terms}
+use Rattle.std.proofs.Common.{◌≡◌, ℕ, ◌+◌, ◌-◌, ◌≤◌, cond, ◌&&◌, eqb, List, [], ◌∷◌, ◌++◌, Some, None, Option, sym, refl, subst, append_assoc, append-nil, arith}
 use Rattle.book_rules.specs.declared.Situation.{Situation}
 use Rattle.book_rules.specs.declared.Index.{Index}
 use Rattle.book_rules.specs.declared.Standing.{Standing}
-use Rattle.book_rules.specs.declared.Standing.TheVariants.{Never, Running, Ended}
 use Rattle.book_rules.specs.declared.Call.{Call}
 use Rattle.book_rules.specs.declared.Call.TheVariants.{Open, Modify, End, Correct, Enter, Strike}
 use Rattle.book_rules.specs.Contents.{Setup, Contents, Last, Stands, never, running, ended}

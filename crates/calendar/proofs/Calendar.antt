@@ -1,13 +1,13 @@
 -- Every date has one year, month and day. Assumes nothing.
-use Rattle.std.proofs.Common.{◌≡◌, ℕ, zero, suc, ◌+◌, ◌-◌, ◌*◌, ◌/◌, ◌%◌, ◌<◌, ◌≤◌, Bool, true, false, cond, ◌&&◌, ◌||◌, eqb, ltb, leb, ◌≢◌, ◌⊎◌, List, Some, sym, refl, ap, ◌∙◌, subst, inl, inr, ⊎_elim, arith, rules}
+use Rattle.std.proofs.Common.{◌≡◌, ℕ, zero, suc, ◌+◌, ◌-◌, ◌/◌, ◌%◌, ◌<◌, ◌≤◌, Bool, true, false, cond, ◌&&◌, leb, ◌≢◌, List, Some, sym, ap, ◌∙◌, subst, ⊎_elim, arith}
 use native.Mathlib.Nat.{mod-add-mod}
-use Rattle.std.proofs.lemmas.Bool.{cases_lt, cases_Bool, leb-true, le-leb, lt-leb, and_parts, and_from, cond-true, cond-false}
+use Rattle.std.proofs.lemmas.Bool.{cases_lt, leb-true, le-leb, and_parts, and_from, cond-true}
 use Rattle.std.proofs.lemmas.Bool.Decides.{nat_tests}
 use Rattle.lemmas.proofs.Options.{some_when}
 use Rattle.calendar.specs.declared.CivilDate.{CivilDate}
-use Rattle.calendar.specs.Dates.{last_date, leap, new_year, days_before_month, month_length, begun, between, in_calendar, date_of, civil_of, year_of, day_of_year, month_of, day_of_month}
+use Rattle.calendar.specs.Dates.{last_date, new_year, days_before_month, month_length, begun, between, in_calendar, date_of, civil_of, year_of, day_of_year, month_of, day_of_month}
 use Rattle.calendar.specs.Places.{weekday, week_of, since_monday, holiday, bridging, day_counted}
-use Rattle.calendar.proofs.Days.{in_year, InYear, month_on_date, InMonth, in_month, month_next, january, december, length_bound, year_length, begun_at, months_rise}
+use Rattle.calendar.proofs.Days.{in_year, InYear, month_on_date, InMonth, month_next, december, year_length, begun_at, months_rise}
 
 pub week_bound : (x : ℕ) → (1 ≤ week_of x) × (week_of x ≤ 52)
 unfolding week_of

@@ -1,9 +1,8 @@
 -- What the definitions of dates and places come to, in the calendar's own words.
-use Rattle.std.specs.Prelude.{◌≡◌, ℕ, ◌+◌, ◌-◌, ◌*◌, ◌/◌, ◌%◌, ◌<◌, ◌≤◌, true, false, cond, List, Some, ◌≢◌}
+use Rattle.std.specs.Prelude.{◌≡◌, ℕ, ◌+◌, ◌%◌, ◌<◌, ◌≤◌, cond, List, Some, ◌≢◌}
 use Rattle.calendar.specs.declared.CivilDate.{CivilDate}
-use Rattle.calendar.specs.declared.Place.{Place}
 use Rattle.calendar.specs.Dates.{last_date, leap, new_year, days_before_month, month_length, date_of, civil_of, year_of}
-use Rattle.calendar.specs.Places.{place_of, weekday, week_of, since_monday, day_counted}
+use Rattle.calendar.specs.Places.{weekday, week_of, since_monday, day_counted}
 
 -- Every date is the date of its year, month and day, and of no other.
 pub record OneCalendar : Type 0 where

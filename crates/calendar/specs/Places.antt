@@ -1,5 +1,5 @@
 -- The place of a date in the profile year: its week, 1 to 52, and the day of the week as which it counts, 1 to 7.
-use Rattle.std.specs.Prelude.{ℕ, ◌+◌, ◌-◌, ◌*◌, ◌/◌, ◌%◌, Bool, true, false, cond, ◌&&◌, ◌||◌, List, [], ◌∷◌, Some, None, Option, ◌==◌, nat_le}
+use Rattle.std.specs.Prelude.{ℕ, ◌+◌, ◌-◌, ◌/◌, ◌%◌, Bool, false, cond, ◌&&◌, ◌||◌, List, [], ◌∷◌, Some, None, Option, ◌==◌, nat_le}
 use Rattle.calendar.specs.declared.Place.{Place}
 use Rattle.calendar.specs.Dates.{last_date, new_year, year_of, day_of_year, month_of, between}
 

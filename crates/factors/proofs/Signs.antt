@@ -1,9 +1,9 @@
 -- The extreme test against its rule over signed numbers. Assumes nothing.
-use Rattle.std.proofs.Common.{◌≡◌, ℕ, zero, suc, ◌+◌, ◌*◌, ◌<◌, Bool, true, ltb, ◌⊎◌, ℤ, pos, ◌+ℤ◌, ◌-ℤ◌, ◌*ℤ◌, ◌<ℤ◌, Decides, sym, ap, ◌∙◌, subst, mul-zero, mul-suc, arith}
-use lib.IntN.{suc_ℤ, zero-*ℤ, suc_ℤ-*ℤ, *ℤ_comm}
+use Rattle.std.proofs.Common.{◌≡◌, ℕ, zero, suc, ◌+◌, ◌*◌, ◌<◌, ltb, ℤ, pos, ◌+ℤ◌, ◌-ℤ◌, ◌*ℤ◌, ◌<ℤ◌, Decides, sym, ap, ◌∙◌, subst, mul-zero, mul-suc, arith}
+use lib.IntN.{zero-*ℤ, suc_ℤ-*ℤ, *ℤ_comm}
 use Rattle.std.proofs.lemmas.Int.{ints}
 use Rattle.std.proofs.lemmas.Bool.Decides.{Decides-or, Decides-ltb, Decides-like}
-use Rattle.factors.specs.Extremes.{Extreme, extreme, TestTellsExtremes}
+use Rattle.factors.specs.Extremes.{extreme, TestTellsExtremes}
 
 -- a difference, taken m times
 times : (m b c : ℕ) → pos m *ℤ (pos b -ℤ pos c) ≡ pos (b * m) -ℤ pos (c * m)

@@ -1,5 +1,5 @@
 -- The usage factor of a span, in watts, and when it is extreme. E is the span's energy, S the sum of its weights.
-use Rattle.std.specs.Prelude.{◌≡◌, ℕ, ◌+◌, ◌*◌, ◌<◌, Bool, true, ◌||◌, ◌⊎◌, ℤ, pos, ◌-ℤ◌, ◌*ℤ◌, ◌<ℤ◌, Decides, nat_lt}
+use Rattle.std.specs.Prelude.{ℕ, ◌+◌, ◌*◌, ◌<◌, Bool, ◌||◌, ◌⊎◌, pos, ◌-ℤ◌, ◌*ℤ◌, ◌<ℤ◌, Decides, nat_lt}
 
 -- The factor is handed out as a pair, and never divided.
 abbrev pub usage_factor : ℕ → ℕ → ℕ × ℕ

@@ -1,5 +1,5 @@
 -- The span between two readings, and its curve by the weights of a profile source.
-use Rattle.std.specs.Prelude.{◌≡◌, ℕ, ◌+◌, ◌-◌, ◌*◌, ◌<◌, Bool, true, false, cond, ◌&&◌, List, length, Some, None, Option, ◌==◌, nat_le, nat_lt, slice_index}
+use Rattle.std.specs.Prelude.{◌≡◌, ℕ, ◌-◌, ◌*◌, ◌<◌, Bool, true, false, cond, ◌&&◌, List, length, Some, None, Option, ◌==◌, nat_le, nat_lt, slice_index}
 use Rattle.sharing.specs.Shares.{before, figure}
 use Rattle.sharing.specs.Laws.{Fair}
 use Rattle.readings.specs.declared.Problem.{Problem}

@@ -1,9 +1,9 @@
 -- The laws of the running share, and what they make of the figures of a span. Assumes nothing.
-use Rattle.std.proofs.Common.{◌≡◌, ℕ, zero, suc, ◌+◌, ◌-◌, ◌*◌, ◌/◌, ◌<◌, ◌≤◌, sym, refl, ap, ◌∙◌, le_trans, add-mul, mul-le-mul_left, one-mul, mul-zero, div-mul-le_self, mul-div_cancel, add-one, arith}
+use Rattle.std.proofs.Common.{◌≡◌, ℕ, zero, suc, ◌+◌, ◌-◌, ◌*◌, ◌/◌, ◌<◌, ◌≤◌, sym, refl, ap, ◌∙◌, le_trans, add-mul, mul-le-mul_left, one-mul, mul-zero, div-mul-le_self, mul-div_cancel, arith}
 use native.Mathlib.Nat.{lt-div-mul-add, zero-div}
 use Rattle.std.proofs.lemmas.Nat.{le-div}
 use Rattle.sharing.specs.Shares.{before, running_share, figure}
-use Rattle.sharing.specs.Laws.{RunningLaws, Fair, EverySpanFair}
+use Rattle.sharing.specs.Laws.{RunningLaws, Fair}
 use Rattle.sharing.proofs.Sums.{before_none, before_more, before_le}
 
 starts : (e s : ℕ) → running_share e s 0 ≡ 0

@@ -1,5 +1,5 @@
 -- Sums over the places before t. Assumes nothing.
-use Rattle.std.proofs.Common.{◌≡◌, ℕ, zero, suc, ◌+◌, ◌-◌, ◌*◌, ◌<◌, ◌≤◌, true, List, refl, ap, add-one, arith}
+use Rattle.std.proofs.Common.{◌≡◌, ℕ, zero, suc, ◌+◌, ◌-◌, ◌≤◌, refl, ap, add-one, arith}
 use Rattle.sharing.specs.Shares.{before}
 
 pub before_none : (w : ℕ → ℕ) → before w 0 ≡ 0

@@ -1,5 +1,5 @@
 -- The laws of sharing. Nothing above looks inside the running share: it is used by these laws alone.
-use Rattle.std.specs.Prelude.{◌≡◌, ℕ, ◌+◌, ◌-◌, ◌*◌, ◌<◌, ◌≤◌}
+use Rattle.std.specs.Prelude.{◌≡◌, ℕ, ◌+◌, ◌*◌, ◌<◌, ◌≤◌}
 use Rattle.sharing.specs.Shares.{before, running_share, figure}
 
 -- The running share starts at 0, ends at E, never falls, never exceeds the exact share E·W/S and falls short of it by

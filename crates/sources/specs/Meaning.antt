@@ -1,5 +1,5 @@
 -- What a profile source means: how many half-hours it covers, and a weight for each sub-profile and half-hour.
-use Rattle.std.specs.Prelude.{ℕ, ◌<◌, ◌≤◌, Bool, cond, ◌&&◌, Some, None, Option, nat_le, nat_lt}
+use Rattle.std.specs.Prelude.{ℕ, ◌<◌, ◌≤◌, cond, ◌&&◌, Some, None, Option, nat_le, nat_lt}
 
 -- At most 1,680 half-hours are covered: 35 days.
 abbrev pub Short : ℕ → Type 0

@@ -1,4 +1,4 @@
-use Rattle.std.proofs.Common.{arith, rules}
+use Rattle.std.proofs.Common.{rules}
 use Rattle.calendar.proofs.Days.{month_on_date, length_bound}
 use Rattle.calendar.specs.Dates.{year_of, month_of}
 use Rattle.calendar.proofs.day_in_month.Goals as goal

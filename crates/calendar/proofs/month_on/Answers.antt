@@ -1,4 +1,4 @@
-use Rattle.std.proofs.Common.{◌-◌, arith, rules}
+use Rattle.std.proofs.Common.{rules}
 use Rattle.calendar.proofs.Days.{month_on_date}
 use Rattle.calendar.proofs.month_on.Goals as goal
 

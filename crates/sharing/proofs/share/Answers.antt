@@ -1,7 +1,7 @@
-use Rattle.std.proofs.Common.{◌≡◌, ℕ, ◌+◌, ◌-◌, ◌<◌, ◌≤◌, min, Bool, true, false, cond, ◌&&◌, List, length, get_or, Some, sym, refl, ap, ◌∙◌, arith}
+use Rattle.std.proofs.Common.{◌≡◌, ℕ, ◌+◌, ◌<◌, min, true, length, Some, sym, refl, ap, ◌∙◌, arith}
 use Rattle.lemmas.proofs.Options.{some_when}
 use Rattle.lemmas.proofs.Writes.{set_more, set_past}
-use Rattle.sharing.specs.Shares.{before, running_share, figure, weighed, total, weighable, divisible}
+use Rattle.sharing.specs.Shares.{before, figure, weighed, total, weighable, divisible}
 use Rattle.std.proofs.lemmas.Bool.{le-leb, and_from, cond-true}
 use Rattle.sharing.proofs.Sums.{before_none, before_more, before_le}
 use Rattle.sharing.proofs.Fairness.{running_laws, fair, figure_is}

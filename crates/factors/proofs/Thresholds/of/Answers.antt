@@ -1,4 +1,4 @@
-use Rattle.std.proofs.Common.{◌≡◌, ℕ, ◌≤◌, length, get_or, take, sym, ◌∙◌, subst, arith, rules}
+use Rattle.std.proofs.Common.{get_or, take, sym, arith}
 use Rattle.lemmas.proofs.Tests.{every_at}
 use Rattle.std.proofs.lemmas.List.{get_or-take, length-take-le}
 use Rattle.std.proofs.lemmas.Bool.{leb-true}
@@ -13,8 +13,8 @@ invariant_of-result c =
     record {
       k_bounded = omega arith;
       thetas_bounded = λ sub h.
-        let own = c.loop-i.invariant.1 sub (omega arith) in
-        let here = get_or-take 8 xs sub 0 h in
-        let small = leb-true (get_or (take 8 xs) sub 0) 50000 (every_at bounded (take 8 xs) sub 0 all (omega arith)) in
-        omega arith;
+          let own = c.loop-i.invariant.1 sub (omega arith) in
+          let here = get_or-take 8 xs sub 0 h in
+          let small = leb-true (get_or (take 8 xs) sub 0) 50000 (every_at bounded (take 8 xs) sub 0 all (omega arith)) in
+          omega arith;
     }

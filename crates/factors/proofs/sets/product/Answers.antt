@@ -1,4 +1,4 @@
-use Rattle.std.proofs.Common.{◌*◌, ◌≤◌, refl, mul-le-mul, arith}
+use Rattle.std.proofs.Common.{◌≤◌, refl, mul-le-mul, arith}
 use Rattle.factors.proofs.sets.product.Goals as goal
 
 pub overflow_mul-result : goal.overflow_mul-result

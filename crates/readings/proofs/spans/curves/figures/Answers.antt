@@ -1,7 +1,7 @@
-use Rattle.std.proofs.Common.{◌≡◌, ℕ, ◌+◌, ◌-◌, ◌<◌, ◌≤◌, min, List, [], ◌∷◌, length, get_or, vec_items, sym, refl, ap, ◌∙◌, arith, below_more}
+use Rattle.std.proofs.Common.{◌≡◌, ℕ, ◌+◌, List, [], ◌∷◌, length, get_or, vec_items, sym, refl, ap, ◌∙◌, arith, below_more}
 use Rattle.lemmas.proofs.Options.{some_when}
 use Rattle.std.proofs.lemmas.List.{get_or_push, get_or_append_left, length_push}
-use Rattle.sharing.specs.Shares.{before, running_share, figure}
+use Rattle.sharing.specs.Shares.{before, figure}
 use Rattle.sharing.proofs.Sums.{before_none, before_more, before_le}
 use Rattle.sharing.proofs.Fairness.{running_laws, fair, figure_is}
 use Rattle.readings.proofs.spans.curves.figures.Goals as goal

@@ -1,4 +1,4 @@
-use Rattle.std.proofs.Common.{◌≡◌, ℕ, ◌+◌, sym, ap, ◌∙◌, arith}
+use Rattle.std.proofs.Common.{◌≡◌, sym, ap, ◌∙◌, arith}
 use Rattle.lemmas.proofs.Options.{some_when}
 use Rattle.sharing.specs.Shares.{before}
 use Rattle.sharing.proofs.Sums.{before_none, before_more}
