@@ -1,20 +1,18 @@
 -- What a change of one site does to what the book holds, for each call. Assumes nothing.
-use Rattle.std.proofs.Common.{◌≡◌, ℕ, ◌+◌, ◌-◌, ◌<◌, ◌≤◌, Bool, true, false, cond, ◌&&◌, eqb, ◌⊎◌, List, length, get_or, set, Some, None, Option, sym, refl, ap, ◌∙◌, subst, ⊎_elim, arith, get_or-set_other, get_or-set_same}
+use Rattle.std.proofs.Common.{◌≡◌, ℕ, ◌+◌, ◌-◌, ◌<◌, Bool, cond, ◌&&◌, eqb, List, length, get_or, set, Some, None, Option, sym, refl, ap, ◌∙◌, subst, ⊎_elim, get_or-set_other, get_or-set_same}
 use Rattle.std.proofs.lemmas.Bool.{cases_eq, eq-eqb, ne_eqb, cond-false, and_left}
 use Rattle.book_rules.specs.declared.Terms.{Terms}
 use Rattle.book_rules.specs.declared.Situation.{Situation}
-use Rattle.book_rules.specs.declared.Index.{Index}
 use Rattle.book_rules.specs.declared.Standing.{Standing}
-use Rattle.book_rules.specs.declared.Standing.TheVariants.{Never, Running, Ended}
-use Rattle.book_rules.specs.declared.Call.{Call}
+use Rattle.book_rules.specs.declared.Standing.TheVariants.{Never, Ended}
 use Rattle.book_rules.specs.declared.Call.TheVariants.{Open, Modify, End, Correct, Enter, Strike}
-use Rattle.book_rules.specs.Contents.{Setup, Contents, Last, Stands, never, running, ended}
+use Rattle.book_rules.specs.Contents.{Setup, Last, Stands, never, running, ended}
 use Rattle.book_rules.specs.Refusing.{Applies, modify_never, modify_ended, end_never, correct_none}
-use Rattle.book_rules.specs.Telling.{Situated, Indexed, SameSituations, SameIndexes, Acts, opens, modifies, ends, corrects, enters, strikes, begun, ended_on}
+use Rattle.book_rules.specs.Telling.{Situated, SameSituations, SameIndexes, Acts, opens, modifies, ends, corrects, enters, strikes, begun, ended_on}
 use Rattle.book_rules.specs.Tests.{standing_by}
 use Rattle.book_rules.proofs.Standings.{stands_by}
 use Rattle.book.specs.declared.site.Site.{Site}
-use Rattle.book.specs.Sites.{starting, standing_index, StandsAt, SameStarts, SameIndexesOf, closed, renewed, corrected, after, Serves}
+use Rattle.book.specs.Sites.{starting, standing_index, StandsAt, SameStarts, SameIndexesOf, closed, renewed, after, Serves}
 use Rattle.book.specs.Books.{no_site, held}
 use Rattle.book.proofs.Storage.{past}
 

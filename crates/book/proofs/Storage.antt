@@ -1,14 +1,11 @@
 -- Sites in a list, and what a change of one site does to what the book holds. Assumes nothing.
-use Rattle.std.proofs.Common.{◌≡◌, ℕ, zero, suc, ◌+◌, ◌<◌, ◌≤◌, Bool, true, false, cond, ◌&&◌, eqb, ◌≢◌, ◌⊎◌, List, [], ◌∷◌, ◌++◌, length, get_or, set, replicate, Some, None, Option, sym, refl, ap, ◌∙◌, subst, ⊎_elim, arith, get_or-set_other, get_or-set_same}
-use Rattle.std.proofs.lemmas.List.{get_or-replicate, get_or_past, get_or_read, get_or_push, get_or_append_left, length-replicate, length_push}
-use Rattle.std.proofs.lemmas.Bool.{cases_lt, cases_eq, cases_Bool, eq-eqb, ne_eqb, cond-true, cond-false, and_left}
-use Rattle.book_rules.specs.declared.Situation.{Situation}
-use Rattle.book_rules.specs.declared.Index.{Index}
-use Rattle.book_rules.specs.Contents.{Contents}
+use Rattle.std.proofs.Common.{◌≡◌, ℕ, zero, suc, ◌<◌, ◌≤◌, true, false, cond, eqb, ◌⊎◌, List, [], ◌∷◌, ◌++◌, length, get_or, replicate, None, sym, refl, ap, ◌∙◌, subst, ⊎_elim, arith}
+use Rattle.std.proofs.lemmas.List.{get_or-replicate, get_or_past, get_or_read}
+use Rattle.std.proofs.lemmas.Bool.{cases_lt, cases_Bool, cond-true, cond-false}
 use Rattle.book_rules.specs.Laws.{Within}
 use Rattle.book.specs.declared.by_day.ByDay.{ByDay}
 use Rattle.book.specs.declared.site.Site.{Site}
-use Rattle.book.specs.Sites.{on, starting, standing_index, NoEntries}
+use Rattle.book.specs.Sites.{on, standing_index, NoEntries}
 use Rattle.book.specs.Books.{no_days, no_site, held, AllEmpty}
 
 -- a table of nothing has nothing

@@ -27,8 +27,8 @@ fn curve_ruling<S: ProfileSource>(
     dial: u8,
     places: usize,
 ) -> Option<Refusal>
-    ensures value { ruled result ≡ first_test (curve_tests (setup book.now) (covers source.now) places site dial) }
-    ensures known { IfNone result ((half_hours (setup book.now) ≤ places) × (covers source.now ≡ half_hours (setup book.now))) }
+    ensures value { ruled result ≡ first_test (curve_tests (setup book.now) (S.covers source.now) places site dial) }
+    ensures known { IfNone result ((half_hours (setup book.now) ≤ places) × (S.covers source.now ≡ half_hours (setup book.now))) }
 {
     let half_hours = 48 * book.days() as usize;
     if places < half_hours {
@@ -56,7 +56,7 @@ pub fn curve<S: ProfileSource>(
     dial: u8,
     figures: &mut [u32],
 ) -> Result<Option<(u8, u8)>, Refusal>
-    ensures { CurveAnswer (setup book.now) (contents book.now) (metering (contents book.now) (weighs source.now) thresholds.now site dial) (covers source.now) (length figures.old) site dial figures.old result figures.new }
+    ensures { CurveAnswer (setup book.now) (contents book.now) (metering (contents book.now) (S.weighs source.now) thresholds.now site dial) (S.covers source.now) (length figures.old) site dial figures.old result figures.new }
 {
     if let Some(refusal) = curve_ruling(book, source, site, dial, figures.len()) {
         return Err(refusal);
@@ -73,8 +73,8 @@ fn factor_ruling<S: ProfileSource>(
     dial: u8,
     day: u8,
 ) -> Option<Refusal>
-    ensures value { ruled result ≡ first_test (factor_tests (setup book.now) (covers source.now) site dial day) }
-    ensures known { IfNone result (covers source.now ≡ half_hours (setup book.now)) }
+    ensures value { ruled result ≡ first_test (factor_tests (setup book.now) (S.covers source.now) site dial day) }
+    ensures known { IfNone result (S.covers source.now ≡ half_hours (setup book.now)) }
 {
     if site >= book.sites() {
         return Some(Refusal::UnknownSite);
@@ -101,7 +101,7 @@ pub fn factor<S: ProfileSource>(
     dial: u8,
     day: u8,
 ) -> Result<Option<(u64, u64)>, Refusal>
-    ensures { FactorAnswer (setup book.now) (contents book.now) (metering (contents book.now) (weighs source.now) thresholds.now site dial) (covers source.now) site dial day result }
+    ensures { FactorAnswer (setup book.now) (contents book.now) (metering (contents book.now) (S.weighs source.now) thresholds.now site dial) (S.covers source.now) site dial day result }
 {
     if let Some(refusal) = factor_ruling(book, source, site, dial, day) {
         return Err(refusal);

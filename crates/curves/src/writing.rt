@@ -46,9 +46,9 @@ fn write_span<S: ProfileSource>(
 )
     requires forward { span.from < span.to }
     requires few { span.to ≤ 35 }
-    requires covered { 48 * span.to ≤ covers source.now }
+    requires covered { 48 * span.to ≤ S.covers source.now }
     requires places { 48 * span.to ≤ length figures.old }
-    ensures { SpanWritten (metering (contents book.now) (weighs source.now) thresholds.now site dial) span.from span.to span.energy figures.old figures.new }
+    ensures { SpanWritten (metering (contents book.now) (S.weighs source.now) thresholds.now site dial) span.from span.to span.energy figures.old figures.new }
 {
     let judgement = judge(book, source, thresholds, site, dial, span, weights);
     let first = 48 * span.from as usize;
@@ -75,9 +75,9 @@ pub(crate) fn write_curve<S: ProfileSource>(
     dial: u8,
     figures: &mut [u32],
 )
-    requires covered { half_hours (setup book.now) ≤ covers source.now }
+    requires covered { half_hours (setup book.now) ≤ S.covers source.now }
     requires places { half_hours (setup book.now) ≤ length figures.old }
-    ensures { SpansWritten (metering (contents book.now) (weighs source.now) thresholds.now site dial) (setup book.now).days (setup book.now).days figures.old figures.new }
+    ensures { SpansWritten (metering (contents book.now) (S.weighs source.now) thresholds.now site dial) (setup book.now).days (setup book.now).days figures.old figures.new }
 {
     let mut weights = [0u32; 1680];
     clear(figures, 48 * book.days() as usize);

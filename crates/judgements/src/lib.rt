@@ -29,7 +29,7 @@ pub struct Judgement {
 
 // The weight of a half-hour, 0 where the source tells none.
 fn weight_at<S: ProfileSource>(source: &S, sub_profile: u8, t: usize) -> u32
-    ensures value { sub_profile ≤ 7 → t < covers source.now → result ≡ weighs source.now sub_profile t }
+    ensures value { sub_profile ≤ 7 → t < S.covers source.now → result ≡ S.weighs source.now sub_profile t }
     ensures bound { result ≤ 1000000 }
 {
     match source.weight(sub_profile, t) {
@@ -47,7 +47,7 @@ fn weigh<S: ProfileSource>(
     weights: &mut [u32; 1680],
 ) -> u64
     requires { (first ≤ end) × (end ≤ 1680) }
-    ensures weighed { sub_profile ≤ 7 → end ≤ covers source.now → Weighed (weighs source.now sub_profile) first end weights.new result }
+    ensures weighed { sub_profile ≤ 7 → end ≤ S.covers source.now → Weighed (S.weighs source.now sub_profile) first end weights.new result }
     ensures bound { result ≤ 1000000 * (end - first) }
 {
     let mut sum: u64 = 0;
@@ -81,7 +81,7 @@ fn party_of<S: ProfileSource>(
 ) -> Result<(u8, u64), Anomaly>
     requires { (span.from ≤ span.to) × (span.to ≤ 35) }
     ensures bound { IfOk result (λ v. v.1 ≤ 1680000000) }
-    ensures own { span.from < span.to → 48 * span.to ≤ covers source.now → OwnWeights (metering (contents book.now) (weighs source.now) thresholds.now site dial) span.from span.to span.energy weights.new result }
+    ensures own { span.from < span.to → 48 * span.to ≤ S.covers source.now → OwnWeights (metering (contents book.now) (S.weighs source.now) thresholds.now site dial) span.from span.to span.energy weights.new result }
 {
     match grounds_of(book, site, dial, span.from, span.to) {
         Err(anomaly) => Err(anomaly),
@@ -109,7 +109,7 @@ pub fn judge<S: ProfileSource>(
     span: DialSpan,
     weights: &mut [u32; 1680],
 ) -> Judgement
-    ensures { span.from < span.to → span.to ≤ 35 → 48 * span.to ≤ covers source.now → JudgedSo (metering (contents book.now) (weighs source.now) thresholds.now site dial) span.from span.to span.energy weights.new result }
+    ensures { span.from < span.to → span.to ≤ 35 → 48 * span.to ≤ S.covers source.now → JudgedSo (metering (contents book.now) (S.weighs source.now) thresholds.now site dial) span.from span.to span.energy weights.new result }
 {
     let to = span.to.min(35);
     let span = DialSpan {

@@ -1,5 +1,5 @@
 -- Calls with their answers tell what the calls tell. Assumes nothing.
-use Rattle.std.proofs.Common.{◌≡◌, List, [], ◌∷◌, ◌++◌, Result, sym, ◌∙◌, subst}
+use Rattle.std.proofs.Common.{◌≡◌, List, [], ◌∷◌, ◌++◌, Result, sym, subst}
 use Rattle.refusals.specs.declared.Refusal.{Refusal}
 use Rattle.book_rules.specs.declared.Call.{Call}
 use Rattle.book_rules.specs.Contents.{Setup, Contents}

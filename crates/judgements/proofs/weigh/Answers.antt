@@ -9,8 +9,8 @@ loop-t-init g c = ((λ h k. weighed_none _ _ _), omega arith, search rules)
 pub loop-t-preserved : goal.loop-t-preserved
 loop-t-preserved g c =
     let room : c.loop-t.t < length c.loop-t.weights = omega (arith, c.loop-t.invariant.2) in (
-      (λ h k. weighed_more _ c.args.first c.loop-t.t c.weight-at-weight.result c.loop-t.sum c.loop-t.weights (omega arith) room (c.weight-at-weight.ensures.value h (omega arith)) (c.loop-t.invariant.0 h k)),
-      omega (arith, c.loop-t.invariant.1, c.weight-at-weight.ensures.bound),
+      (λ h k. weighed_more _ c.args.first c.loop-t.t c.weight_at-weight.result c.loop-t.sum c.loop-t.weights (omega arith) room (c.weight_at-weight.ensures.value h (omega arith)) (c.loop-t.invariant.0 h k)),
+      omega (arith, c.loop-t.invariant.1, c.weight_at-weight.ensures.bound),
       simp length-set c.loop-t.invariant.2,
     )
 

@@ -60,7 +60,7 @@ impl Span {
         source: &S,
         sub_profile: u8,
     ) -> Result<Option<Vec<u32>>, AllocError>
-        ensures { IfOk result (λ o. DrawnBy (covers source.now) (weighs source.now) sub_profile self.now.first self.now.last (option_map vec_items o)) }
+        ensures { IfOk result (λ o. DrawnBy (S.covers source.now) (S.weighs source.now) sub_profile self.now.first self.now.last (option_map vec_items o)) }
     {
         let half_hours = self.half_hours() as usize;
         if source.covered() != half_hours || sub_profile > 7 {
@@ -78,9 +78,9 @@ impl Span {
 // The weights of a sub-profile over the first half-hours of a source, added.
 fn total_weight<S: ProfileSource>(source: &S, sub_profile: u8, half_hours: usize) -> u64
     requires sub_profile { sub_profile ≤ 7 }
-    requires half_hours { half_hours ≤ covers source.now }
+    requires half_hours { half_hours ≤ S.covers source.now }
     requires short { half_hours ≤ 1680 }
-    ensures value { result ≡ before (weighs source.now sub_profile) half_hours }
+    ensures value { result ≡ before (S.weighs source.now sub_profile) half_hours }
     ensures bound { result ≤ 1680000000 }
 {
     let mut sum: u64 = 0;
@@ -101,10 +101,10 @@ fn figures<S: ProfileSource>(
     sharing: Sharing,
 ) -> Result<Vec<u32>, AllocError>
     requires sub_profile { sub_profile ≤ 7 }
-    requires half_hours { half_hours ≤ covers source.now }
-    requires all { sharing.all ≡ before (weighs source.now sub_profile) half_hours }
+    requires half_hours { half_hours ≤ S.covers source.now }
+    requires all { sharing.all ≡ before (S.weighs source.now sub_profile) half_hours }
     requires behind { sharing.behind ≡ 0 }
-    ensures { IfOk result (λ v. Curve sharing.energy (weighs source.now sub_profile) half_hours v.items) }
+    ensures { IfOk result (λ v. Curve sharing.energy (S.weighs source.now sub_profile) half_hours v.items) }
 {
     let mut sharing = sharing;
     let mut curve = Vec::new(heap);

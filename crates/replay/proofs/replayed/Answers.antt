@@ -1,4 +1,4 @@
-use Rattle.std.proofs.Common.{◌≡◌, List, [], ◌∷◌, ◌++◌, take, vec_items, Result, sym, refl, ap, ◌∙◌, subst, take_all}
+use Rattle.std.proofs.Common.{List, [], take, vec_items, Result, sym, refl, ◌∙◌, subst, take_all}
 use Rattle.std.proofs.lemmas.List.{take_more}
 use Rattle.refusals.specs.declared.Refusal.{Refusal}
 use Rattle.book_rules.specs.declared.Call.{Call}
@@ -11,23 +11,23 @@ use Rattle.replay.proofs.replayed.Goals as goal
 
 pub loop-call-init : goal.loop-call-init
 loop-call-init c =
-    let b = c.in-ok-book.book in
-    (refl, λ t. subst (λ (l : List (Result (Unit {0}) Refusal)). Answered (setup b) [] l (contents b)) (sym c.in-ok-answers.ensures.items) (at_first (contents b) t))
+    let b = c.in_ok-book.book in
+    (refl, λ t. subst (λ (l : List (Result (Unit {0}) Refusal)). Answered (setup b) [] l (contents b)) (sym c.in_ok-answers.ensures.items) (at_first (contents b) t))
 
 pub loop-call-preserved : goal.loop-call-preserved
 loop-call-preserved c =
     let i = c.loop-call.call-index in let calls = c.args.calls.now in (
       c.make.ensures.same ∙ c.loop-call.invariant.0,
       λ t.
-          one_call (setup c.in-ok-book.book) (take i calls) _ (vec_items c.loop-call.answers) _ _ c.make.result c.loop-call.book c.make.new.self c.loop-call.invariant.0 c.make.ensures
+          one_call (setup c.in_ok-book.book) (take i calls) _ (vec_items c.loop-call.answers) _ _ c.make.result c.loop-call.book c.make.new.self c.loop-call.invariant.0 c.make.ensures
           (take_more calls i _ c.loop-call-test.true) c.in-Ok.ensures.items (c.loop-call.invariant.1 t),
     )
 
 pub returns : goal.returns
 returns c =
-    let b = c.loop-call.book in let calls = c.args.calls.now in let x = c.args.set-up in let rs = vec_items c.loop-call.answers in
-    let fresh = c.in-ok-book.ensures in
-    let told = subst (λ (u : Setup). Told u [] (contents c.in-ok-book.book)) (sym fresh.1.0) fresh.1.1 in
-    let all = subst (λ (l : List Call). Answered (setup c.in-ok-book.book) l rs (contents b)) (take_all _ calls c.loop-call-test.false) (c.loop-call.invariant.1 told) in
+    let b = c.loop-call.book in let calls = c.args.calls.now in let x = c.args.set_up in let rs = vec_items c.loop-call.answers in
+    let fresh = c.in_ok-book.ensures in
+    let told = subst (λ (u : Setup). Told u [] (contents c.in_ok-book.book)) (sym fresh.1.0) fresh.1.1 in
+    let all = subst (λ (l : List Call). Answered (setup c.in_ok-book.book) l rs (contents b)) (take_all _ calls c.loop-call-test.false) (c.loop-call.invariant.1 told) in
     let a = subst (λ (u : Setup). Answered u calls rs (contents b)) fresh.1.0 all in
     (fresh.0, (c.loop-call.invariant.0 ∙ fresh.1.0, (told_of (as_set x) calls rs (contents b) a, a)))

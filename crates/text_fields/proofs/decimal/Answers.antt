@@ -7,25 +7,25 @@ use Rattle.text_fields.specs.Fields.{digit, value_after}
 use Rattle.text_fields.proofs.Digits.{value_next, digit_bound, power_next, power_under}
 use Rattle.text_fields.proofs.decimal.Goals as goal
 
-pub returns-then-not-is-digit : goal.returns-then-not-is-digit
-returns-then-not-is-digit c =
+pub returns-then-not-is_digit : goal.returns-then-not-is_digit
+returns-then-not-is_digit c =
     let bs = c.args.text.now in let i = c.loop-byte.byte-index in
-    let none : digit (get_or bs i 0) ≡ false = sym c.if-not-is-digit.ensures in
+    let none : digit (get_or bs i 0) ≡ false = sym c.if-not-is_digit.ensures in
     let all : every digit bs ≡ false = every_fails digit bs i c.loop-byte.invariant.1 0 (omega arith) none in
     record { value = sym (cond-false _ _ _ (and_right _ _ all)); bound = tt }
 
-pub overflow-mul-value : goal.overflow-mul-value
-overflow-mul-value c = omega (arith, c.loop-byte.invariant.2, power_under c.loop-byte.byte-index (omega arith))
+pub overflow_mul-value : goal.overflow_mul-value
+overflow_mul-value c = omega (arith, c.loop-byte.invariant.2, power_under c.loop-byte.byte-index (omega arith))
 
-pub overflow-add-value : goal.overflow-add-value
-overflow-add-value c =
+pub overflow_add-value : goal.overflow_add-value
+overflow_add-value c =
     let bs = c.args.text.now in let i = c.loop-byte.byte-index in
-    omega (arith, c.loop-byte.invariant.2, power_under i (omega arith), digit_bound (get_or bs i 0) (sym c.if-not-is-digit.ensures))
+    omega (arith, c.loop-byte.invariant.2, power_under i (omega arith), digit_bound (get_or bs i 0) (sym c.if-not-is_digit.ensures))
 
 pub loop-byte-preserved : goal.loop-byte-preserved
 loop-byte-preserved c =
     let bs = c.args.text.now in let i = c.loop-byte.byte-index in
-    let d : digit (get_or bs i 0) ≡ true = sym c.if-not-is-digit.ensures in
+    let d : digit (get_or bs i 0) ≡ true = sym c.if-not-is_digit.ensures in
     let below = c.loop-byte.invariant.2 in
     let b = digit_bound (get_or bs i 0) d in
     let p = power_next i in (
@@ -40,7 +40,7 @@ returns c =
     let end : i ≡ length bs = omega arith in
     let v = c.loop-byte.invariant.0 ∙ at_drop_all (value_after c.loop-byte.value) bs i (omega arith) in
     let d = every_ends digit bs i c.loop-byte.invariant.1 (omega arith) in
-    let some = eqb-false (length bs) 0 (sym c.if-is-empty.ensures) in
+    let some = eqb-false (length bs) 0 (sym c.if-is_empty.ensures) in
     let low = le-leb 1 (length bs) (omega (arith, some)) in
     let up = le-leb (length bs) 9 (omega arith) in
     record {

@@ -5,12 +5,12 @@ use Rattle.book.proofs.setting_up.empty_sites.Goals as goal
 
 pub loop-init : goal.loop-init
 loop-init c =
-    let v = c.in-ok-sites.ensures in
+    let v = c.in_ok-sites.ensures in
     (v.len, subst AllEmpty (sym v.items) all_empty)
 
 pub loop-preserved : goal.loop-preserved
 loop-preserved c =
-    let p = c.in-ok-push.ensures in
+    let p = c.in_ok-push.ensures in
     (p.len ∙ ap (λ (n : ℕ). n + 1) c.loop.invariant.0, subst AllEmpty (sym p.items) (one_more_empty (vec_items c.loop.sites) c.new.result c.loop.invariant.1 c.new.ensures))
 
 pub returns : goal.returns

@@ -9,6 +9,6 @@ pub returns : goal.returns
 returns c =
     let line = c.args.line.now in
     let rest = ap decimalOf (take_rest line 11) in
-    let fields : c.of-fields.result ≡ of_fields (dayOf (take 10 line)) (decimalOf (drop 11 line)) =
-    c.of-fields.ensures ∙ (ap (λ x. of_fields x c.decimal.result) c.day.ensures ∙ ap (of_fields (dayOf (take 10 line))) (c.decimal.ensures.value ∙ rest)) in
-    fields ∙ sym (cond-true _ _ _ (sym c.if-not-has-day-and-space.ensures))
+    let fields : c.of_fields.result ≡ of_fields (dayOf (take 10 line)) (decimalOf (drop 11 line)) =
+    c.of_fields.ensures ∙ (ap (λ x. of_fields x c.decimal.result) c.day.ensures ∙ ap (of_fields (dayOf (take 10 line))) (c.decimal.ensures.value ∙ rest)) in
+    fields ∙ sym (cond-true _ _ _ (sym c.if-not-has_day_and_space.ensures))

@@ -7,4 +7,4 @@ use Rattle.spans.proofs.finding.index_days.Goals as goal
 pub loop-day-preserved : goal.loop-day-preserved
 loop-day-preserved c =
     let on = track (contents c.args.book.now) c.args.site c.args.dial in
-    subst (λ (o : Option (ℕ × ℕ)). Seen on (c.loop-day.day + 1) o) (sym c.seen-by-seen.ensures) (seen_more on c.loop-day.day c.bound-on.result c.loop-day.seen (sym c.bound-on.ensures) c.loop-day.invariant)
+    subst (λ (o : Option (ℕ × ℕ)). Seen on (c.loop-day.day + 1) o) (sym c.seen_by-seen.ensures) (seen_more on c.loop-day.day c.bound_on.result c.loop-day.seen (sym c.bound_on.ensures) c.loop-day.invariant)

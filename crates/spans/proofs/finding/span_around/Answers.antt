@@ -7,12 +7,12 @@ use Rattle.spans.proofs.finding.span_around.Goals as goal
 pub loop-first-preserved : goal.loop-first-preserved
 loop-first-preserved c =
     let b = c.args.book.now in
-    missed_more (track (contents b) c.args.site c.args.dial) (setup b).days c.args.day c.loop-first.first c.span-beginning-span.result c.span-beginning-span.ensures (sym c.runs-past.ensures ∙ c.if-runs-past.false) c.loop-first.invariant
+    missed_more (track (contents b) c.args.site c.args.dial) (setup b).days c.args.day c.loop-first.first c.span_beginning-span.result c.span_beginning-span.ensures (sym c.runs_past.ensures ∙ c.if-runs_past.false) c.loop-first.invariant
 
-pub returns-then-runs-past : goal.returns-then-runs-past
-returns-then-runs-past c =
+pub returns-then-runs_past : goal.returns-then-runs_past
+returns-then-runs_past c =
     let b = c.args.book.now in
-    around_found (track (contents b) c.args.site c.args.dial) (setup b).days c.args.day c.loop-first.first c.span-beginning-span.result c.loop-first-test.true c.span-beginning-span.ensures (sym c.runs-past.ensures ∙ c.if-runs-past.true)
+    around_found (track (contents b) c.args.site c.args.dial) (setup b).days c.args.day c.loop-first.first c.span_beginning-span.result c.loop-first-test.true c.span_beginning-span.ensures (sym c.runs_past.ensures ∙ c.if-runs_past.true)
 
 pub returns : goal.returns
 returns c = λ a b u v le s begun past. c.loop-first.invariant a b u v (omega arith) le s past

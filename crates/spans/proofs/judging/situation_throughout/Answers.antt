@@ -4,7 +4,7 @@ use Rattle.book.specs.Books.{contents}
 use Rattle.span_rules.specs.Lasts.{later}
 use Rattle.spans.proofs.Situations.{LookedAt, looked_none, looked_step, gap_here, one_situation, several, some_last}
 use Rattle.spans.proofs.judging.situation_throughout.Goals as goal
-use Rattle.spans.proofs.judging.situation_throughout.Goals.{then-is-change, else-is-change}
+use Rattle.spans.proofs.judging.situation_throughout.Goals.{then-is_change, else-is_change}
 
 pub loop-day-init : goal.loop-day-init
 loop-day-init c = looked_none _ _
@@ -12,15 +12,15 @@ loop-day-init c = looked_none _ _
 pub loop-day-preserved : goal.loop-day-preserved
 loop-day-preserved c =
     let f = (contents c.args.book.now).situation c.args.site in
-    looked_step f c.args.from c.loop-day.day c.loop-day.latest c.latest-by-latest.result c.situation-starting-starting.result c.loop-day.changes c.is-change.result c.if-is-change.changes c.is-gap.result c.loop-day.invariant
-    c.situation-starting-starting.ensures c.latest-by-latest.ensures c.is-change.ensures
-    (elim c.if-is-change.branch [ then-is-change w ↦ inl (w.if-is-change.true, w.changes-is) | else-is-change w ↦ inr (w.if-is-change.false, w.changes-is) ])
-    c.is-gap.ensures c.if-is-gap.false
+    looked_step f c.args.from c.loop-day.day c.loop-day.latest c.latest_by-latest.result c.situation_starting-starting.result c.loop-day.changes c.is_change.result c.if-is_change.changes c.is_gap.result c.loop-day.invariant
+    c.situation_starting-starting.ensures c.latest_by-latest.ensures c.is_change.ensures
+    (elim c.if-is_change.branch [ then-is_change w ↦ inl (w.if-is_change.true, w.changes-is) | else-is_change w ↦ inr (w.if-is_change.false, w.changes-is) ])
+    c.is_gap.ensures c.if-is_gap.false
 
-pub returns-then-is-gap : goal.returns-then-is-gap
-returns-then-is-gap c = λ lt.
-    gap_here _ c.args.from c.loop-day.day c.args.to c.loop-day.latest c.latest-by-latest.result c.situation-starting-starting.result c.loop-day.changes c.is-gap.result c.loop-day.invariant
-    c.situation-starting-starting.ensures c.latest-by-latest.ensures c.loop-day-test.true c.is-gap.ensures c.if-is-gap.true
+pub returns-then-is_gap : goal.returns-then-is_gap
+returns-then-is_gap c = λ lt.
+    gap_here _ c.args.from c.loop-day.day c.args.to c.loop-day.latest c.latest_by-latest.result c.situation_starting-starting.result c.loop-day.changes c.is_gap.result c.loop-day.invariant
+    c.situation_starting-starting.ensures c.latest_by-latest.ensures c.loop-day-test.true c.is_gap.ensures c.if-is_gap.true
 
 -- all days have been looked at
 all_days : (c : goal.Then-not-changes) → LookedAt ((contents c.args.book.now).situation c.args.site) c.args.from c.args.to (Some (c.in-Some.field-0-0, c.in-Some.situation)) false

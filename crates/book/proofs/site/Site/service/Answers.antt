@@ -7,7 +7,7 @@ use Rattle.book.proofs.site.Site.service.Goals as goal
 pub loop-start-preserved : goal.loop-start-preserved
 loop-start-preserved c =
     one_more (starting c.args.self.now) c.loop-start.start c.args.day c.loop-start.invariant
-    (ap (λ o. service_of c.loop-start.start o c.args.day) (sym c.at.ensures) ∙ (sym c.service-on.ensures ∙ c.in-default.is))
+    (ap (λ o. service_of c.loop-start.start o c.args.day) (sym c.at.ensures) ∙ (sym c.service_on.ensures ∙ c.in_default.is))
 
 pub returns-in-Some : goal.returns-in-Some
 returns-in-Some c =

@@ -10,8 +10,8 @@ loop-b-init c = (sym (standing_none _), tt)
 pub loop-b-preserved : goal.loop-b-preserved
 loop-b-preserved c =
     let i = c.loop-b.b in let f = starting c.args.self.now in (
-      c.stands-on-standing.ensures.value ∙ (ap (λ o. standing_on c.loop-b.standing i o) c.at.ensures ∙ (ap (λ t. standing_on t i (f i)) c.loop-b.invariant.0 ∙ sym (standing_more f i))),
-      c.stands-on-standing.ensures.under,
+      c.stands_on-standing.ensures.value ∙ (ap (λ o. standing_on c.loop-b.standing i o) c.at.ensures ∙ (ap (λ t. standing_on t i (f i)) c.loop-b.invariant.0 ∙ sym (standing_more f i))),
+      c.stands_on-standing.ensures.under,
     )
 
 pub returns : goal.returns

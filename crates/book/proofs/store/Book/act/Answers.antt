@@ -1,4 +1,4 @@
-use Rattle.std.proofs.Common.{◌≡◌, ℕ, ◌<◌, ◌≤◌, ltb, None, vec_items, subst, arith}
+use Rattle.std.proofs.Common.{ℕ, ◌<◌, ◌≤◌, ltb, None, vec_items, subst, arith}
 use Rattle.std.proofs.lemmas.Bool.{leb-false, ltb-false, or_parts}
 use Rattle.book_rules.specs.declared.Call.{Call}
 use Rattle.book_rules.specs.declared.Call.TheVariants.{Open, Modify, End, Correct, Enter, Strike}
@@ -22,44 +22,44 @@ day_of b d h = omega (arith, b.horizon)
 border_of : (b : Book) (d : ℕ) → d ≤ b.days → d < 36
 border_of b d h = omega (arith, b.horizon)
 
-pub act-open-requires : goal.act-open-requires
-act-open-requires c =
+pub act_open-requires : goal.act_open-requires
+act_open-requires c =
     let i = c.in-Open in let b = c.args.self.now in let k = Open i.site i.day i.terms in
     let free : Rules (setup b) (contents b) k None = subst (λ (z : Call). Rules (setup b) (contents b) z None) i.is c.requires in
     let f = none_holds b k free in
     (leb-false _ _ f.0, (day_of b i.day (leb-false _ _ f.1.1.0), leb-false _ _ f.1.1.1.1.1.1.1.1.0))
 
-pub act-modify-requires : goal.act-modify-requires
-act-modify-requires c =
+pub act_modify-requires : goal.act_modify-requires
+act_modify-requires c =
     let i = c.in-Modify in let b = c.args.self.now in let k = Modify i.site i.day i.terms in
     let free : Rules (setup b) (contents b) k None = subst (λ (z : Call). Rules (setup b) (contents b) z None) i.is c.requires in
     let f = none_holds b k free in
     (leb-false _ _ f.0, (day_of b i.day (leb-false _ _ f.1.1.0), (leb-false _ _ f.1.1.1.1.1.1.1.1.0, free)))
 
-pub act-end-requires : goal.act-end-requires
-act-end-requires c =
+pub act_end-requires : goal.act_end-requires
+act_end-requires c =
     let i = c.in-End in let b = c.args.self.now in let k = End i.site i.day in
     let free : Rules (setup b) (contents b) k None = subst (λ (z : Call). Rules (setup b) (contents b) z None) i.is c.requires in
     let f = none_holds b k free in
     (leb-false _ _ f.0, (border_of b i.day (ltb-false _ _ f.1.1.0), free))
 
-pub act-correct-requires : goal.act-correct-requires
-act-correct-requires c =
+pub act_correct-requires : goal.act_correct-requires
+act_correct-requires c =
     let i = c.in-Correct in let b = c.args.self.now in let k = Correct i.site i.day i.terms in
     let free : Rules (setup b) (contents b) k None = subst (λ (z : Call). Rules (setup b) (contents b) z None) i.is c.requires in
     let f = none_holds b k free in
     (leb-false _ _ f.0, (day_of b i.day (leb-false _ _ f.1.1.0), free))
 
-pub act-enter-requires : goal.act-enter-requires
-act-enter-requires c =
+pub act_enter-requires : goal.act_enter-requires
+act_enter-requires c =
     let i = c.in-Enter in let b = c.args.self.now in let k = Enter i.site i.dial i.day i.value in
     let free : Rules (setup b) (contents b) k None = subst (λ (z : Call). Rules (setup b) (contents b) z None) i.is c.requires in
     let f = none_holds b k free in
     let dial = or_parts (ltb i.dial 1) (ltb 2 i.dial) f.1.1.1.1.1.1.1.1.1.0 in
     (leb-false _ _ f.0, (border_of b i.day (ltb-false _ _ f.1.1.0), (ltb-false _ _ dial.0, (ltb-false _ _ dial.1, leb-false _ _ f.1.1.1.1.1.1.1.1.1.1.1.1.1.0))))
 
-pub act-strike-requires : goal.act-strike-requires
-act-strike-requires c =
+pub act_strike-requires : goal.act_strike-requires
+act_strike-requires c =
     let i = c.in-Strike in let b = c.args.self.now in let k = Strike i.site i.dial i.day in
     let free : Rules (setup b) (contents b) k None = subst (λ (z : Call). Rules (setup b) (contents b) z None) i.is c.requires in
     let f = none_holds b k free in

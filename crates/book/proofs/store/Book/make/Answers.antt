@@ -1,6 +1,5 @@
-use Rattle.std.proofs.Common.{◌≡◌, List, [], ◌∷◌, ◌++◌, Some, None, sym, refl, subst}
+use Rattle.std.proofs.Common.{[], ◌∷◌, ◌++◌, Some, None, sym, refl, subst}
 use Rattle.refusals.specs.Numbers.{number_of}
-use Rattle.book_rules.specs.declared.Call.{Call}
 use Rattle.book_rules.specs.Contents.{Setup}
 use Rattle.book_rules.specs.Telling.{Step, Told, after}
 use Rattle.book.specs.Books.{setup, contents}

@@ -15,14 +15,14 @@ returns-in-Some c =
 pub returns-in-Some-contradiction : goal.returns-in-Some-contradiction
 returns-in-Some-contradiction c =
     let b = c.args.self.now in let call = Open c.args.site c.args.day c.args.terms in let k = number_of c.in-Some-contradiction.refusal in
-    in_middle 36 (setup b) (contents b) call k c.in-default.ensures.value (subst (λ (z : Standing). Some k ≡ first (middle z call)) c.standing-at.ensures c.in-Some-contradiction.ensures)
+    in_middle 36 (setup b) (contents b) call k c.in_default.ensures.value (subst (λ (z : Standing). Some k ≡ first (middle z call)) c.standing_at.ensures c.in-Some-contradiction.ensures)
 
 pub returns-then-self : goal.returns-then-self
 returns-then-self c =
     let b = c.args.self.now in let call = Open c.args.site c.args.day c.args.terms in
-    in_back 36 (setup b) (contents b) call (Some 11) c.in-default.ensures.value (subst (λ (z : Standing). None ≡ first (middle z call)) c.standing-at.ensures c.in-default-contradiction.ensures) (search rules)
+    in_back 36 (setup b) (contents b) call (Some 11) c.in_default.ensures.value (subst (λ (z : Standing). None ≡ first (middle z call)) c.standing_at.ensures c.in_default-contradiction.ensures) (search rules)
 
 pub returns : goal.returns
 returns c =
     let b = c.args.self.now in let call = Open c.args.site c.args.day c.args.terms in
-    in_back 36 (setup b) (contents b) call None c.in-default.ensures.value (subst (λ (z : Standing). None ≡ first (middle z call)) c.standing-at.ensures c.in-default-contradiction.ensures) (search rules)
+    in_back 36 (setup b) (contents b) call None c.in_default.ensures.value (subst (λ (z : Standing). None ≡ first (middle z call)) c.standing_at.ensures c.in_default-contradiction.ensures) (search rules)

@@ -11,5 +11,5 @@ pub returns : goal.returns
 returns c =
     let x = get_or (vec_items c.args.self.now.sites) c.args.site no_site in (
       subst (λ (n : ℕ). c.args.site < n) c.len.ensures c.if-site-len.false,
-      subst (λ (z : Standing). Stands (starting x) z) (sym c.standing-at.ensures) (stands_by (starting x) 36 (past x.situations)),
+      subst (λ (z : Standing). Stands (starting x) z) (sym c.standing_at.ensures) (stands_by (starting x) 36 (past x.situations)),
     )
