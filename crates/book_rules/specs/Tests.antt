@@ -1,5 +1,5 @@
 -- The conditions of the refusals as tests, in the order of their numbers; n is the number of days that are looked at.
--- That the first test that holds is the upper number that applies is a theorem (specs/Laws.antt, Tests-rule).
+-- That the first test that holds is the upper number that applies is a theorem (specs/Laws.antt, TestsRule).
 use Rattle.std.specs.Prelude.{◌≡◌, ℕ, zero, suc, Bool, true, false, cond, not, ◌&&◌, ◌||◌, ltb, leb, List, [], ◌∷◌, is_some, is_ok, Some, None, Option, nat_le, nat_lt}
 use Rattle.profiles.specs.Table.{profileOf}
 use Rattle.book_rules.specs.declared.Terms.{Terms}

@@ -8,5 +8,5 @@ use amounts::Amount;
 
 // Two sheets of books that stand for the same history hold the same, in every kind of amount.
 pub fn one_history_draws_one_sheet<K: Amount>()
-    ensures { OneSheet {X = K.Held} nil piece joined energy }
+    ensures { OneSheet {X = K.Held} K.nil K.piece K.joined K.energy }
 {}

@@ -12,17 +12,17 @@ loop-t-init c =
 
 pub loop-t-preserved : goal.loop-t-preserved
 loop-t-preserved c =
-    let i = c.loop-t.invariant in let f = c.next-figure.ensures in
+    let i = c.loop-t.invariant in let f = c.next_figure.ensures in
     let room : c.loop-t.t < length c.loop-t.figures = omega arith in (
       f.same.0 ∙ i.0,
       f.same.1 ∙ i.1,
-      (λ whole. so_far_more c.args.energy c.loop-t.sharing.energy _ c.args.first c.args.end c.loop-t.t c.args.all c.loop-t.sharing.all c.loop-t.sharing.behind c.next-figure.new.self.behind _ c.next-figure.result c.loop-t.figures i.0 i.1 (omega arith) (omega arith) room whole refl f.behind f.figure (i.2 whole)),
-      (λ k out. kept c.args.first c.args.end c.loop-t.t c.next-figure.result k c.loop-t.figures (omega arith) (omega arith) out ∙ i.3 k out),
+      (λ whole. so_far_more c.args.energy c.loop-t.sharing.energy _ c.args.first c.args.end c.loop-t.t c.args.all c.loop-t.sharing.all c.loop-t.sharing.behind c.next_figure.new.self.behind _ c.next_figure.result c.loop-t.figures i.0 i.1 (omega arith) (omega arith) room whole refl f.behind f.figure (i.2 whole)),
+      (λ k out. kept c.args.first c.args.end c.loop-t.t c.next_figure.result k c.loop-t.figures (omega arith) (omega arith) out ∙ i.3 k out),
     )
 
-pub returns-in-default : goal.returns-in-default
-returns-in-default c = record {
-  here = λ small some light whole i lt. absurd (c.in-default.ensures (and_from _ _ (and_from _ _ (le-leb _ _ small) (lt-ltb _ _ some)) (le-leb _ _ light)));
+pub returns-in_default : goal.returns-in_default
+returns-in_default c = record {
+  here = λ small some light whole i lt. absurd (c.in_default.ensures (and_from _ _ (and_from _ _ (le-leb _ _ small) (lt-ltb _ _ some)) (le-leb _ _ light)));
   other = λ t out. refl;
 }
 

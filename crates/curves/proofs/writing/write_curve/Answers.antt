@@ -4,16 +4,16 @@ use Rattle.span_rules.specs.Days.{Metering, metering}
 use Rattle.curves.specs.Writing.{SpansWritten}
 use Rattle.curves.proofs.Spans.{spans_none, spans_same, spans_more}
 use Rattle.curves.proofs.writing.write_curve.Goals as goal
-use Rattle.curves.proofs.writing.write_curve.Goals.{in-Some, in-default}
+use Rattle.curves.proofs.writing.write_curve.Goals.{in-Some, in_default}
 
 pub loop-day-preserved : goal.loop-day-preserved
 loop-day-preserved g c =
     let b = c.args.book.now in
     let x = metering (contents b) (g.S.ProfileSource.weighs c.args.source.now) c.args.thresholds.now c.args.site c.args.dial in
     let old = c.clear.new.figures in let n = c.loop-day.day in
-    elim c.match-span-beginning.branch [
-      | in-Some w ↦ subst (SpansWritten x (setup b).days (n + 1) old) (sym w.figures-is) (spans_more x (setup b).days n w.in-Some.span old c.loop-day.figures _ w.in-Some.ensures w.write-span.ensures c.loop-day.invariant)
-      | in-default w ↦ subst (SpansWritten x (setup b).days (n + 1) old) (sym w.figures-is) (spans_same x (setup b).days n old c.loop-day.figures w.in-default.ensures c.loop-day.invariant)
+    elim c.match-span_beginning.branch [
+      | in-Some w ↦ subst (SpansWritten x (setup b).days (n + 1) old) (sym w.figures-is) (spans_more x (setup b).days n w.in-Some.span old c.loop-day.figures _ w.in-Some.ensures w.write_span.ensures c.loop-day.invariant)
+      | in_default w ↦ subst (SpansWritten x (setup b).days (n + 1) old) (sym w.figures-is) (spans_same x (setup b).days n old c.loop-day.figures w.in_default.ensures c.loop-day.invariant)
     ]
 
 pub returns : goal.returns
