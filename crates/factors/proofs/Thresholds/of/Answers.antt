@@ -13,8 +13,8 @@ invariant_of-result c =
     record {
       k_bounded = omega arith;
       thetas_bounded = λ sub h.
-        let own = c.loop-i.invariant.1 sub (omega arith) in
-        let here = get_or-take 8 xs sub 0 h in
-        let small = leb-true (get_or (take 8 xs) sub 0) 50000 (every_at bounded (take 8 xs) sub 0 all (omega arith)) in
-        omega arith;
+          let own = c.loop-i.invariant.1 sub (omega arith) in
+          let here = get_or-take 8 xs sub 0 h in
+          let small = leb-true (get_or (take 8 xs) sub 0) 50000 (every_at bounded (take 8 xs) sub 0 all (omega arith)) in
+          omega arith;
     }
