@@ -1,5 +1,5 @@
 -- The split kind: the energies of dials 1 and 2, and the number of pieces, each of them a whole number below zero too.
-use Rattle.std.specs.Prelude.{ℕ, ◌+◌, Bool, cond, ℤ, pos, ◌+ℤ◌, ◌-ℤ◌, ◌==◌, unsigned_abs}
+use Rattle.std.specs.Prelude.{ℕ, ◌+◌, cond, ℤ, pos, ◌+ℤ◌, ◌-ℤ◌, ◌==◌, unsigned_abs}
 use Rattle.amounts.specs.declared.split.Split.{Split}
 use Rattle.amounts.specs.Told.{told, told_size}
 
