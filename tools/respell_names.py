@@ -3,10 +3,10 @@
 
 usage: python3 tools/respell_names.py        at the top of the repository, once, after the kit's port.py
 
-Words get underscores, types and facts are in camel case: 'running-share' becomes 'running_share', 'Running-laws' becomes
-'RunningLaws'. Turned are names that specs/ and proofs/ declare, fields and constructors too, and names bound in a proof. Names
-that Rattle makes or that the kit's library declares, names of src/, comments and strings stay.
-It prints names that would fall together, and then changes nothing.
+Words get underscores, types and facts are in camel case: 'running-share' becomes 'running_share', 'dayOf' 'day_of',
+'Running-laws' 'RunningLaws'. Turned are names that specs/ and proofs/ declare, fields and constructors too, and names
+bound in a proof. Names that Rattle makes or that the kit's library declares, names of src/, comments and strings stay.
+It prints names that would fall together in a file, and then changes nothing.
 """
 
 import os
@@ -21,6 +21,7 @@ DECLARED = re.compile(r"^\s*(?:(?:pub|abbrev|unfoldable|data|record)\s+)*(" + NA
 HEADED = re.compile(r"^\s*(?:pub\s+)?(?:record|data)\s+(" + NAME + r")")
 ALIAS = re.compile(r"\sas\s+(" + NAME + r")(?=[,}])")
 USE = re.compile(r"^\s*(?:pub\s+)?(?:ghost\s+)?use\s+(\S+?)\.\{([^}]*)\}")
+CAMEL = re.compile(r"^[a-z]+(?:[A-Z][a-z]+)+$")
 SKIP = re.compile(r'"(?:[^"\\]|\\.)*"')
 # Names that are chosen by hand: 'SetUp' is a type already.
 CHOSEN = {"Set-up": "SetUpAnswer"}
@@ -32,7 +33,7 @@ def spelled(name):
     name = name.replace("′", "'")
     if name[0].isupper():
         return "".join(word[:1].upper() + word[1:] for word in name.split("-"))
-    return name.replace("-", "_")
+    return re.sub("[A-Z]", lambda m: "_" + m.group(0).lower(), name.replace("-", "_")) if CAMEL.match(name) else name.replace("-", "_")
 
 
 def files(root):
@@ -56,7 +57,7 @@ def parts(line, mark):
 
 
 def odd(name):
-    return "′" in name or bool(re.search(r"[^\W\d_]-\w|\d-\w|'-\w", name)) and name[0] not in "◌"
+    return "′" in name or bool(CAMEL.match(name)) or bool(re.search(r"[^\W\d_]-\w|\d-\w|'-\w", name)) and name[0] not in "◌"
 
 
 def declared(root):
@@ -109,7 +110,7 @@ def turn(path, names, crates):
         after_dot = m.start() > 0 and m.string[m.start() - 1] == "."
         if word in names and (after_dot or word not in strange):
             return spelled(word)
-        if in_proofs and not after_dot and word not in strange and re.match(r"^[a-z][\w'-]*$", word):
+        if in_proofs and not after_dot and not CAMEL.match(word) and word not in strange and re.match(r"^[a-z][\w'-]*$", word):
             return spelled(word)
         return word
 
@@ -133,10 +134,13 @@ def main():
     root = os.getcwd()
     crates = {d for d in os.listdir(os.path.join(root, "crates"))}
     names, every = declared(root)
-    new = {}
-    for name in sorted(names):
-        new.setdefault(spelled(name), []).append(name)
-    bad = [f"{a} and {', '.join(b)}" for a, b in sorted(new.items()) if len(b) > 1 or (a in every and a not in b)]
+    bad = []
+    for path in files(root):
+        here = set(TOKEN.findall(text_of(path)))
+        new = {}
+        for name in sorted(here & names):
+            new.setdefault(spelled(name), []).append(name)
+        bad += [f"{', '.join(b)} as {a} in {path}" for a, b in sorted(new.items()) if len(b) > 1 or a in here & every]
     if bad:
         print("fall together: " + "; ".join(bad))
         return 1

@@ -1,3 +1,4 @@
+-- A lemma by which the laws of the split kind are proved. No contract cites it. Assumes nothing.
 use Rattle.std.specs.Prelude.{◌≡◌, ℤ}
 use Rattle.amounts.specs.Kinds.{split}
 

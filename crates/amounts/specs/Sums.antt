@@ -1,4 +1,5 @@
--- Sums of signed numbers, and what is told of them. Assumes nothing.
+-- Sums of signed numbers, and what is told of them: lemmas by which the laws of the split kind are proved. No contract
+-- cites them. Assumes nothing.
 use Rattle.std.specs.Prelude.{◌≡◌, ◌+◌, ◌^◌, ◌≤◌, min, ℤ, pos, negsuc, ◌+ℤ◌, ◌-ℤ◌, unsigned_abs}
 use Rattle.std.proofs.Common.{ap, arith}
 use Rattle.std.proofs.lemmas.Int.{ints}

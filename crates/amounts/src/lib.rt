@@ -51,6 +51,7 @@ pub trait Amount: Sized {
     fn size_told(&self) -> u64
         ensures { result ≡ size (holds self.now) };
 
+    // The laws, which each `impl` proves: below the calls, a ghost member is a law.
     ghost joining: { Joining nil piece joined energy size };
 
     ghost takingoff: { TakingOff joined taken energy size };

@@ -1,6 +1,6 @@
 -- The first test that holds, found in a part of the tests. Assumes nothing.
 use Rattle.std.proofs.Common.{◌≡◌, ℕ, Bool, true, false, cond, not, ltb, leb, List, [], ◌∷◌, ◌++◌, is_some, is_ok, Some, None, Option, arith}
-use Rattle.profiles.specs.Table.{profileOf}
+use Rattle.profiles.specs.Table.{profile_of}
 use Rattle.book_rules.specs.declared.Standing.{Standing}
 use Rattle.book_rules.specs.declared.Call.{Call}
 use Rattle.book_rules.specs.Contents.{Setup, Contents}
@@ -27,7 +27,7 @@ first_rest (x ∷ xs) ys o e h = on_rest x.0 x.1 o (first xs) (first (xs ++ ys))
 
 -- the tests of site, party, day and profile; of how the site stands; and the others
 abbrev pub front : Setup → Call → List (ℕ × Bool)
-front u c = (3, leb u.sites (site_of c)) ∷ (4, of_terms (λ t. leb u.parties t.party) c) ∷ (5, beyond u c) ∷ (6, of_terms (λ t. not (is_ok (profileOf t.class t.power))) c) ∷ []
+front u c = (3, leb u.sites (site_of c)) ∷ (4, of_terms (λ t. leb u.parties t.party) c) ∷ (5, beyond u c) ∷ (6, of_terms (λ t. not (is_ok (profile_of t.class t.power))) c) ∷ []
 
 abbrev pub middle : Standing → Call → List (ℕ × Bool)
 middle z c = (7, opened_running z c) ∷ (8, not_served z c) ∷ (9, unfit_day z c) ∷ []

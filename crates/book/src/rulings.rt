@@ -1,6 +1,6 @@
 // Why a call is refused, if it is: the tests in the order of their numbers, on the unchanged book.
 ghost use Rattle.std.specs.Prelude.{◌≡◌, ◌<◌, not, [], ◌∷◌, IfNone, is_ok, Some, None, vec_len, nat_le};
-ghost use Rattle.profiles.specs.Table.{profileOf};
+ghost use Rattle.profiles.specs.Table.{profile_of};
 ghost use Rattle.book_rules.specs.declared.Call.TheVariants.{Open, Modify, End, Correct, Enter, Strike};
 ghost use Rattle.book_rules.specs.Tests.{first, tests, standing, opened_running, not_served, unfit_day};
 ghost use Rattle.book.specs.Books.{setup, contents, ruled};
@@ -11,7 +11,7 @@ use profiles::Profile;
 use refusals::Refusal;
 
 fn has_profile(terms: Terms) -> bool
-    ensures { result ≡ is_ok (profileOf terms.class terms.power) }
+    ensures { result ≡ is_ok (profile_of terms.class terms.power) }
 {
     Profile::of(terms.class, terms.power).is_ok()
 }
@@ -51,7 +51,7 @@ impl Book {
 
     // What is asked of site, party, day, class and power alike by every call that has terms.
     fn terms_ruling(&self, site: u16, day: u8, terms: Terms) -> Option<Refusal>
-        ensures value { ruled result ≡ first ((3, nat_le (vec_len self.now.sites) site) ∷ (4, nat_le self.now.parties terms.party) ∷ (5, nat_le self.now.days day) ∷ (6, not (is_ok (profileOf terms.class terms.power))) ∷ []) }
+        ensures value { ruled result ≡ first ((3, nat_le (vec_len self.now.sites) site) ∷ (4, nat_le self.now.parties terms.party) ∷ (5, nat_le self.now.days day) ∷ (6, not (is_ok (profile_of terms.class terms.power))) ∷ []) }
         ensures known { IfNone result ((site < vec_len self.now.sites) × (day < self.now.days)) }
     {
         if site as usize >= self.sites.len() {

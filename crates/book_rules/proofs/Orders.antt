@@ -3,7 +3,7 @@ use Rattle.std.proofs.Common.{◌≡◌, ℕ, ◌<◌, ◌≤◌, Bool, true, fa
 use mathlib.Core.Path.{fun_ext}
 use Rattle.std.proofs.lemmas.Bool.{cases_lt, cases_eq, cases_Bool, eq-eqb, ne_eqb, eqb-true, cond-true, cond-false, and_left, and_right, and_parts}
 use Rattle.refusals.specs.declared.Refusal.TheVariants.{NoSuchProfile}
-use Rattle.profiles.specs.Table.{profileOf}
+use Rattle.profiles.specs.Table.{profile_of}
 use Rattle.book_rules.specs.declared.Terms.{Terms}
 use Rattle.book_rules.specs.declared.Situation.{Situation}
 use Rattle.book_rules.specs.declared.Index.{Index}
@@ -126,7 +126,7 @@ may_open u m s d t o none = by (standing_by f u.days) (stands_by f u.days past)
     by z (ended {b} {e} {x} l q) = free_ended u.days (m.situation s) (o.chains s) d b e x l q (at_most e d (λ lt. none 9 (open_early {b = b} {e = e} (ended l q) lt)))
 
 -- what a call with terms gives
-given : (u : Setup) (s : ℕ) (x : Situation) → (u.sites ≤ s → ⊥) → (u.parties ≤ x.terms.party → ⊥) → (profileOf x.terms.class x.terms.power ≡ Err NoSuchProfile → ⊥) → KnownSituation u s x
+given : (u : Setup) (s : ℕ) (x : Situation) → (u.sites ≤ s → ⊥) → (u.parties ≤ x.terms.party → ⊥) → (profile_of x.terms.class x.terms.power ≡ Err NoSuchProfile → ⊥) → KnownSituation u s x
 given u s x a b c = record { site = under s u.sites a; party = under x.terms.party u.parties b; profile = c }
 
 -- a situation starts where all have ended

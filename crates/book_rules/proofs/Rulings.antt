@@ -5,7 +5,7 @@ use Rattle.std.proofs.lemmas.Bool.Decides.{nat_tests}
 use Rattle.refusals.specs.declared.Refusal.{Refusal}
 use Rattle.refusals.specs.declared.Refusal.TheVariants.{NoSuchProfile}
 use Rattle.profiles.specs.declared.Profile.TheVariants.{Res1, Res11, Res1We, Res11We, Res2}
-use Rattle.profiles.specs.Table.{between, profileOf}
+use Rattle.profiles.specs.Table.{between, profile_of}
 use Rattle.book_rules.specs.declared.Terms.{Terms}
 use Rattle.book_rules.specs.declared.Index.{Index}
 use Rattle.book_rules.specs.declared.Standing.{Standing}
@@ -40,10 +40,10 @@ err_of false false false true e p q r s t f h = absurd (false≢true (sym h))
 err_of false false false false true p q r s t f h = absurd (false≢true (sym h))
 err_of false false false false false p q r s t f h = refl
 
-pub unprofiled : (class kva : ℕ) → not (is_ok (profileOf class kva)) ≡ true → profileOf class kva ≡ Err NoSuchProfile
+pub unprofiled : (class kva : ℕ) → not (is_ok (profile_of class kva)) ≡ true → profile_of class kva ≡ Err NoSuchProfile
 unprofiled class kva h =
     err_of (eqb class 1 && between 1 kva 6) (eqb class 1 && between 7 kva 36) (eqb class 2 && between 1 kva 6) (eqb class 2 && between 7 kva 36) (eqb class 3 && between 1 kva 36)
-    Res1 Res11 Res1We Res11We Res2 NoSuchProfile (not-true (is_ok (profileOf class kva)) h)
+    Res1 Res11 Res1We Res11We Res2 NoSuchProfile (not-true (is_ok (profile_of class kva)) h)
 
 -- what contradicts a value
 pub record Against (o : Option Index) (d v e : ℕ) : Type 0 where
@@ -237,7 +237,7 @@ module _ (n : ℕ) (u : Setup) (m : Contents) (w : Within n m) where
       (
         (λ h. no_day (beyond_sound u c h)),
         (
-          (λ h. no_profile (terms_sound (λ t. profileOf t.class t.power ≡ Err NoSuchProfile) _ (λ t k. unprofiled t.class t.power k) c h)),
+          (λ h. no_profile (terms_sound (λ t. profile_of t.class t.power ≡ Err NoSuchProfile) _ (λ t k. unprofiled t.class t.power k) c h)),
           (
             (λ h. by_7 c (standing n m (site_of c)) refl h),
             (
@@ -286,7 +286,7 @@ module _ (n : ℕ) (u : Setup) (m : Contents) (w : Within n m) where
   complete c j (no_site h) = yes _ (le-leb _ _ h)
   complete c j (no_party h) = yes _ (terms_tested (λ t. u.parties ≤ t.party) (λ t. leb u.parties t.party) (λ t k. le-leb _ _ k) c h)
   complete c j (no_day h) = yes _ (beyond_tested u c h)
-  complete c j (no_profile h) = yes _ (terms_tested (λ t. profileOf t.class t.power ≡ Err NoSuchProfile) (λ t. not (is_ok (profileOf t.class t.power))) (λ t k. ap (λ r. not (is_ok r)) k) c h)
+  complete c j (no_profile h) = yes _ (terms_tested (λ t. profile_of t.class t.power ≡ Err NoSuchProfile) (λ t. not (is_ok (profile_of t.class t.power))) (λ t k. ap (λ r. not (is_ok r)) k) c h)
   complete c j (open_running {s} {d} {b} {t} h) = yes _ (sym (ap (λ z. opened_running z (Open s d t)) (is s (Running b) h)))
   complete c j (modify_never {s} {d} {t} h) = yes _ (sym (ap (λ z. not_served z (Modify s d t)) (is s Never h)))
   complete c j (modify_ended {s} {d} {b} {e} {t} h) = yes _ (sym (ap (λ z. not_served z (Modify s d t)) (is s (Ended b e) h)))

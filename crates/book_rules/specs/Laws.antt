@@ -1,7 +1,7 @@
 -- What follows from the telling alone, for every history.
 use Rattle.std.specs.Prelude.{◌≡◌, ℕ, ◌<◌, ◌≤◌, List, Some, None, Err, Option}
 use Rattle.refusals.specs.declared.Refusal.TheVariants.{NoSuchProfile}
-use Rattle.profiles.specs.Table.{profileOf}
+use Rattle.profiles.specs.Table.{profile_of}
 use Rattle.book_rules.specs.declared.Situation.{Situation}
 use Rattle.book_rules.specs.declared.Index.{Index}
 use Rattle.book_rules.specs.declared.Call.{Call}
@@ -42,7 +42,7 @@ pub record Track (days : ℕ) (on : ℕ → Option Index) : Type 0 where
 pub record KnownSituation (u : Setup) (s : ℕ) (x : Situation) : Type 0 where
   pub site : s < u.sites
   pub party : x.terms.party < u.parties
-  pub profile : profileOf x.terms.class x.terms.power ≡ Err NoSuchProfile → ⊥
+  pub profile : profile_of x.terms.class x.terms.power ≡ Err NoSuchProfile → ⊥
 
 -- An index is of a known site, and of dial 1 or 2.
 pub record KnownDial (u : Setup) (s k : ℕ) : Type 0 where

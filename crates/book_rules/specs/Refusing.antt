@@ -1,7 +1,7 @@
 -- Why a call is refused: which numbers apply to it.
 use Rattle.std.specs.Prelude.{◌≡◌, ℕ, ◌<◌, ◌≤◌, ◌⊎◌, Some, None, Err, Option}
 use Rattle.refusals.specs.declared.Refusal.TheVariants.{NoSuchProfile}
-use Rattle.profiles.specs.Table.{profileOf}
+use Rattle.profiles.specs.Table.{profile_of}
 use Rattle.book_rules.specs.declared.Terms.{Terms}
 use Rattle.book_rules.specs.declared.Index.{Index}
 use Rattle.book_rules.specs.declared.Standing.TheVariants.{Never, Running, Ended}
@@ -62,7 +62,7 @@ pub data Applies (u : Setup) (m : Contents) : Call → ℕ → Type 0 where
   -- the day lies past the horizon
   no_day : {c : Call} → Beyond u c → Applies u m c 5
   -- class and power are not in the profile table
-  no_profile : {c : Call} → OfTerms (λ t. profileOf t.class t.power ≡ Err NoSuchProfile) c → Applies u m c 6
+  no_profile : {c : Call} → OfTerms (λ t. profile_of t.class t.power ≡ Err NoSuchProfile) c → Applies u m c 6
   -- a running site is opened
   open_running : {s d b : ℕ} {t : Terms} → Stands (m.situation s) (Running b) → Applies u m (Open s d t) 7
   -- a site is modified that is not running

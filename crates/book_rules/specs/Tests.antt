@@ -1,7 +1,7 @@
 -- The conditions of the refusals as tests, in the order of their numbers; n is the number of days that are looked at.
 -- That the first test that holds is the upper number that applies is a theorem (specs/Laws.antt, TestsRule).
-use Rattle.std.specs.Prelude.{ℕ, zero, suc, Bool, true, false, cond, not, ◌&&◌, ◌||◌, ltb, leb, List, [], ◌∷◌, is_some, is_ok, Some, None, Option, nat_le, nat_lt}
-use Rattle.profiles.specs.Table.{profileOf}
+use Rattle.std.specs.Prelude.{ℕ, zero, suc, Bool, true, false, cond, not, ◌&&◌, ◌||◌, List, [], ◌∷◌, is_some, is_ok, Some, None, Option, nat_le, nat_lt}
+use Rattle.profiles.specs.Table.{profile_of}
 use Rattle.book_rules.specs.declared.Terms.{Terms}
 use Rattle.book_rules.specs.declared.Situation.{Situation}
 use Rattle.book_rules.specs.declared.Index.{Index}
@@ -151,18 +151,18 @@ standing n m s = standing_by (m.situation s) n
 abbrev pub tests : ℕ → Setup → Contents → Call → List (ℕ × Bool)
 tests n u m c =
     (3, nat_le u.sites (site_of c))
-    ∷ (4, of_terms (λ t. leb u.parties t.party) c)
+    ∷ (4, of_terms (λ t. nat_le u.parties t.party) c)
     ∷ (5, beyond u c)
-    ∷ (6, of_terms (λ t. not (is_ok (profileOf t.class t.power))) c)
+    ∷ (6, of_terms (λ t. not (is_ok (profile_of t.class t.power))) c)
     ∷ (7, opened_running (standing n m (site_of c)) c)
     ∷ (8, not_served (standing n m (site_of c)) c)
     ∷ (9, unfit_day (standing n m (site_of c)) c)
     ∷ (10, nothing_to_correct m c)
     ∷ (11, situations_full u m c)
     ∷ (12, strange_dial c)
-    ∷ (13, of_enter (λ s k d v. ltb 999999999 v) c)
+    ∷ (13, of_enter (λ s k d v. nat_lt 999999999 v) c)
     ∷ (14, of_enter (λ s k d v. is_some (m.index s k d)) c)
     ∷ (15, of_enter (λ s k d v. crossed (m.index s k) d v n) c)
-    ∷ (16, of_enter (λ s k d v. leb u.index_places m.indexes) c)
+    ∷ (16, of_enter (λ s k d v. nat_le u.index_places m.indexes) c)
     ∷ (17, nothing_to_strike m c)
     ∷ []

@@ -3,7 +3,7 @@ use Rattle.std.proofs.Common.{◌≡◌, ℕ, ◌≤◌, true, false, cond, eqb,
 use Rattle.std.proofs.lemmas.Bool.{cases_Bool, eqb-true, cond-true, cond-false}
 use Rattle.profiles.specs.declared.Profile.{Profile}
 use Rattle.profiles.specs.declared.Profile.TheVariants.{Res1, Res11, Res1We, Res11We, Res2}
-use Rattle.profiles.specs.Table.{dials, subProfileOf, SubProfilesApart}
+use Rattle.profiles.specs.Table.{dials, sub_profile_of, SubProfilesApart}
 
 abbrev owners : List (Profile × ℕ)
 owners = (Res1, 1) ∷ (Res11, 1) ∷ (Res1We, 1) ∷ (Res1We, 2) ∷ (Res11We, 1) ∷ (Res11We, 2) ∷ (Res2, 1) ∷ (Res2, 2) ∷ []
@@ -32,7 +32,7 @@ none p d s h = let z : ◌≡◌ {A = ℕ} 0 1 = cc in absurd (omega arith)
 this : (p : Profile) (d n s : ℕ) → Owned p d n → Some n ≡ Some s → Owned p d s
 this p d n s o h = subst (λ (v : ℕ). Owned p d v) (let e : n ≡ s = cc in e) o
 
-owned : (p : Profile) (d s : ℕ) → subProfileOf p d ≡ Some s → Owned p d s
+owned : (p : Profile) (d s : ℕ) → sub_profile_of p d ≡ Some s → Owned p d s
 owned Res1 = by_dial Res1 (Some 0) None (λ s. this Res1 1 0 s (refl, lit≤ tt)) (none Res1 2)
 owned Res11 = by_dial Res11 (Some 1) None (λ s. this Res11 1 1 s (refl, lit≤ tt)) (none Res11 2)
 owned Res1We = by_dial Res1We (Some 2) (Some 3) (λ s. this Res1We 1 2 s (refl, lit≤ tt)) (λ s. this Res1We 2 3 s (refl, lit≤ tt))

@@ -10,8 +10,8 @@ abbrev pub between : ℕ → ℕ → ℕ → Bool
 between low x high = nat_le low x && nat_le x high
 
 -- The profile of a class at a power in kVA; any other class or power is refused.
-abbrev pub profileOf : ℕ → ℕ → Result Profile Refusal
-profileOf class kva =
+abbrev pub profile_of : ℕ → ℕ → Result Profile Refusal
+profile_of class kva =
     cond (class == 1 && between 1 kva 6) (Ok Res1)
     (cond (class == 1 && between 7 kva 36) (Ok Res11)
     (cond (class == 2 && between 1 kva 6) (Ok Res1We)
@@ -24,14 +24,14 @@ abbrev pub dials : Option ℕ → Option ℕ → ℕ → Option ℕ
 dials first second dial = cond (dial == 1) first (cond (dial == 2) second None)
 
 -- The sub-profile of a profile's dial, where the profile has that dial.
-abbrev pub subProfileOf : Profile → ℕ → Option ℕ
-subProfileOf Res1 = dials (Some 0) None
-subProfileOf Res11 = dials (Some 1) None
-subProfileOf Res1We = dials (Some 2) (Some 3)
-subProfileOf Res11We = dials (Some 4) (Some 5)
-subProfileOf Res2 = dials (Some 6) (Some 7)
+abbrev pub sub_profile_of : Profile → ℕ → Option ℕ
+sub_profile_of Res1 = dials (Some 0) None
+sub_profile_of Res11 = dials (Some 1) None
+sub_profile_of Res1We = dials (Some 2) (Some 3)
+sub_profile_of Res11We = dials (Some 4) (Some 5)
+sub_profile_of Res2 = dials (Some 6) (Some 7)
 
 -- A sub-profile is one of 0 to 7, and belongs to one dial of one profile.
 pub record SubProfilesApart : Type 0 where
-  pub bounded : (p : Profile) (d s : ℕ) → subProfileOf p d ≡ Some s → s ≤ 7
-  pub once : (p q : Profile) (d e s : ℕ) → subProfileOf p d ≡ Some s → subProfileOf q e ≡ Some s → (p ≡ q) × (d ≡ e)
+  pub bounded : (p : Profile) (d s : ℕ) → sub_profile_of p d ≡ Some s → s ≤ 7
+  pub once : (p q : Profile) (d e s : ℕ) → sub_profile_of p d ≡ Some s → sub_profile_of q e ≡ Some s → (p ≡ q) × (d ≡ e)

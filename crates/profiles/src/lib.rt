@@ -2,7 +2,7 @@
 #![tactic(auto)]
 
 ghost use Rattle.std.specs.Prelude.{◌≡◌};
-ghost use Rattle.profiles.specs.Table.{profileOf, subProfileOf, SubProfilesApart};
+ghost use Rattle.profiles.specs.Table.{profile_of, sub_profile_of, SubProfilesApart};
 
 use refusals::Refusal;
 
@@ -28,7 +28,7 @@ const SUB_PROFILES: [[Option<u8>; 2]; 5] = [
 impl Profile {
     // The profile of a class (the metering configuration, 1 to 3) at a subscribed power of 1 to 36 kVA.
     pub fn of(class: u8, kva: u8) -> Result<Profile, Refusal>
-        ensures { result ≡ profileOf class kva }
+        ensures { result ≡ profile_of class kva }
     {
         match class {
             1 if kva >= 1 && kva <= 6 => Ok(Profile::Res1),
@@ -42,7 +42,7 @@ impl Profile {
 
     // The sub-profile of a dial (a register of the meter, 1 or 2); none where the profile lacks the dial.
     pub fn sub_profile(self, dial: u8) -> Option<u8>
-        ensures { result ≡ subProfileOf self dial }
+        ensures { result ≡ sub_profile_of self dial }
     {
         if dial < 1 || dial > 2 {
             return None;

@@ -2,7 +2,7 @@
 use Rattle.std.specs.Prelude.{ℕ, Bool, cond, ◌&&◌, List, length, take, drop, Some, None, Ok, Err, Option, Result, ◌==◌, nat_lt, slice_index}
 use Rattle.calendar.specs.declared.CivilDate.{CivilDate}
 use Rattle.calendar.specs.Dates.{date_of}
-use Rattle.text_fields.specs.Fields.{dayOf, decimalOf}
+use Rattle.text_fields.specs.Fields.{day_of, decimal_of}
 use Rattle.readings.specs.declared.Problem.{Problem}
 use Rattle.readings.specs.declared.Problem.TheVariants.{NotAReading, NoSuchDay}
 use Rattle.readings.specs.declared.Reading.{Reading}
@@ -23,4 +23,4 @@ reading_shaped line = nat_lt 10 (length line) && slice_index line 10 == 32
 
 -- The day stands before the space and the index after it.
 abbrev pub reading_of : List ℕ → Result Reading Problem
-reading_of line = cond (reading_shaped line) (of_fields (dayOf (take 10 line)) (decimalOf (drop 11 line))) (Err NotAReading)
+reading_of line = cond (reading_shaped line) (of_fields (day_of (take 10 line)) (decimal_of (drop 11 line))) (Err NotAReading)

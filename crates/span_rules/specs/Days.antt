@@ -3,7 +3,7 @@ use Rattle.std.specs.Prelude.{◌≡◌, ℕ, ◌+◌, ◌-◌, ◌*◌, ◌/◌
 use Rattle.refusals.specs.declared.Refusal.{Refusal}
 use Rattle.factors.specs.declared.Thresholds.{Thresholds}
 use Rattle.profiles.specs.declared.Profile.{Profile}
-use Rattle.profiles.specs.Table.{profileOf, subProfileOf}
+use Rattle.profiles.specs.Table.{profile_of, sub_profile_of}
 use Rattle.sharing.specs.Shares.{before}
 use Rattle.book_rules.specs.declared.Terms.{Terms}
 use Rattle.book_rules.specs.declared.Situation.{Situation}
@@ -32,11 +32,11 @@ pub record Covers (starting : ℕ → Option Situation) (d c : ℕ) (y : Situati
 
 -- The sub-profile of a dial under such terms; none where the profile lacks the dial.
 abbrev pub of_profile : Result Profile Refusal → ℕ → Option ℕ
-of_profile (Ok p) dial = subProfileOf p dial
+of_profile (Ok p) dial = sub_profile_of p dial
 of_profile (Err r) dial = None
 
 unfoldable pub sub_profile_under : Terms → ℕ → Option ℕ
-sub_profile_under t dial = of_profile (profileOf t.class t.power) dial
+sub_profile_under t dial = of_profile (profile_of t.class t.power) dial
 
 abbrev pub sub_profile_in : Option (ℕ × Situation) → ℕ → Option ℕ
 sub_profile_in None dial = None

@@ -3,7 +3,7 @@ use Rattle.std.proofs.Common.{◌≡◌, ℕ, ◌+◌, ◌-◌, ◌*◌, ◌/◌
 use Rattle.std.proofs.lemmas.Bool.{eqb-true, eqb-false, and_parts, and_from, le-leb, cond-true, cond-false, cases_Bool, both_ways}
 use Rattle.refusals.specs.declared.Refusal.{Refusal}
 use Rattle.profiles.specs.declared.Profile.{Profile}
-use Rattle.profiles.specs.Table.{profileOf}
+use Rattle.profiles.specs.Table.{profile_of}
 use Rattle.profiles.proofs.Owners.{sub_profiles_apart}
 use Rattle.sharing.specs.Shares.{before}
 use Rattle.factors.specs.Extremes.{extreme, Extreme}
@@ -28,7 +28,7 @@ use Rattle.spans.specs.Judging.{Throughout, Gap, Change, Grounded, Lacking, Grou
 -- a sub-profile is 0 to 7
 pub sub_profile_bound : (t : Terms) (dial p : ℕ) → sub_profile_under t dial ≡ Some p → p ≤ 7
 unfolding sub_profile_under
-sub_profile_bound t dial p h = by (profileOf t.class t.power) h
+sub_profile_bound t dial p h = by (profile_of t.class t.power) h
   where
     by : (r : Result Profile Refusal) → of_profile r dial ≡ Some p → p ≤ 7
     by (Ok q) k = sub_profiles_apart.bounded q dial p k

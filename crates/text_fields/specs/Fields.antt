@@ -12,8 +12,8 @@ value_after n [] = n
 value_after n (b ∷ bs) = value_after (n * 10 + (b - 48)) bs
 
 -- A number is one to nine digits.
-abbrev pub decimalOf : List ℕ → Option ℕ
-decimalOf bs = cond (nat_le 1 (length bs) && nat_le (length bs) 9 && every digit bs) (Some (value_after 0 bs)) None
+abbrev pub decimal_of : List ℕ → Option ℕ
+decimal_of bs = cond (nat_le 1 (length bs) && nat_le (length bs) 9 && every digit bs) (Some (value_after 0 bs)) None
 
 abbrev pub dated : Option ℕ → Option ℕ → Option ℕ → Option CivilDate
 dated None m d = None
@@ -25,7 +25,7 @@ abbrev pub day_shaped : List ℕ → Bool
 day_shaped bs = length bs == 10 && slice_index bs 4 == 45 && slice_index bs 7 == 45
 
 -- A day is written as four digits, a hyphen, two digits, a hyphen, two digits.
-abbrev pub dayOf : List ℕ → Option CivilDate
-dayOf bs =
+abbrev pub day_of : List ℕ → Option CivilDate
+day_of bs =
     cond (day_shaped bs)
-    (dated (decimalOf (take 4 bs)) (decimalOf (take 2 (drop 5 bs))) (decimalOf (take 2 (drop 8 bs)))) None
+    (dated (decimal_of (take 4 bs)) (decimal_of (take 2 (drop 5 bs))) (decimal_of (take 2 (drop 8 bs)))) None

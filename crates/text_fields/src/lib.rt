@@ -2,7 +2,7 @@
 #![tactic(auto)]
 
 ghost use Rattle.std.specs.Prelude.{◌≡◌, ◌^◌, ◌<◌, length, IfSome};
-ghost use Rattle.text_fields.specs.Fields.{digit, decimalOf, day_shaped, dayOf};
+ghost use Rattle.text_fields.specs.Fields.{digit, decimal_of, day_shaped, day_of};
 
 use calendar::CivilDate;
 
@@ -14,7 +14,7 @@ fn is_digit(byte: u8) -> bool
 
 // The number that one to nine decimal digits write; none for any other text.
 pub fn decimal(text: &[u8]) -> Option<u32>
-    ensures value { result ≡ decimalOf text.now }
+    ensures value { result ≡ decimal_of text.now }
     ensures bound { IfSome result (λ n. n < 10 ^ length text.now) }
 {
     if text.is_empty() || text.len() > 9 {
@@ -38,7 +38,7 @@ fn has_hyphens(text: &[u8]) -> bool
 
 // A day written as 2007-04-30; none for any other text. The calendar may lack that day.
 pub fn day(text: &[u8]) -> Option<CivilDate>
-    ensures { result ≡ dayOf text.now }
+    ensures { result ≡ day_of text.now }
 {
     if !has_hyphens(text) {
         return None;
