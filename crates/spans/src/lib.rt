@@ -5,8 +5,18 @@
 ghost use Rattle.std.specs.Prelude.{◌≡◌};
 ghost use Rattle.spans.specs.Numbers.{number_of};
 
+use book::store::Book;
+
 pub mod finding;
 pub mod judging;
+
+// A dial of a site, as a book knows it.
+#[derive(Clone, Copy)]
+pub struct SiteDial<'a> {
+    pub book: &'a Book,
+    pub site: u16,
+    pub dial: u8,
+}
 
 // A span of a dial: the day of its first index, the day of its last, which is no day of the span, and the energy between
 // the two in Wh.
@@ -17,33 +27,27 @@ pub struct DialSpan {
     pub energy: u32,
 }
 
-// Why the energy of a span goes to no party.
+// Why the energy of a span goes to no party, each with its number; of several the lowest counts.
 #[derive(Clone, Copy, PartialEq, Eq, Debug)]
 pub enum Anomaly {
     // some day has no situation
-    NoSituation,
+    NoSituation = 1,
     // its days lie in several situations
-    SeveralSituations,
+    SeveralSituations = 2,
     // the profile lacks the dial
-    NoDial,
+    NoDial = 3,
     // the weights add to 0
-    ZeroWeight,
+    ZeroWeight = 4,
     // the usage factor is extreme
-    ExtremeFactor,
+    ExtremeFactor = 5,
 }
 
 impl Anomaly {
-    // The number of an anomaly, 1 to 5; of several the lowest counts.
+    // The number of an anomaly, 1 to 5.
     pub fn number(self) -> u8
         ensures { result ≡ number_of self }
     {
-        match self {
-            Anomaly::NoSituation => 1,
-            Anomaly::SeveralSituations => 2,
-            Anomaly::NoDial => 3,
-            Anomaly::ZeroWeight => 4,
-            Anomaly::ExtremeFactor => 5,
-        }
+        self as u8
     }
 }
 
