@@ -8,19 +8,22 @@ use Rattle.span_rules.specs.Anomalies.{FirstAnomaly}
 use Rattle.span_rules.specs.Figures.{used}
 use Rattle.spans.specs.declared.Anomaly.{Anomaly}
 use Rattle.spans.specs.Numbers.{number_of}
-use Rattle.judgements.specs.declared.Account.{Account}
-use Rattle.judgements.specs.declared.Account.TheVariants.{Party, Anomaly as OfAnomaly}
 use Rattle.judgements.specs.declared.Judgement.{Judgement}
 
--- The anomaly to whose account energy goes, by its number; none where it goes to a party's.
-abbrev pub anomaly_in : Account → Option ℕ
-anomaly_in (Party p) = None
-anomaly_in (OfAnomaly n) = Some (number_of n)
+-- An account is a party's, or that of an anomaly. The anomaly, by its number; none where the account is a party's.
+abbrev pub anomaly_in : Result ℕ Anomaly → Option ℕ
+anomaly_in (Ok p) = None
+anomaly_in (Err n) = Some (number_of n)
 
 -- The row of an account on a sheet: the parties come first, then A1 to A5.
-abbrev pub row_of : ℕ → Account → ℕ
-row_of parties (Party p) = p
-row_of parties (OfAnomaly n) = parties + number_of n - 1
+abbrev pub row_of : ℕ → Result ℕ Anomaly → ℕ
+row_of parties (Ok p) = p
+row_of parties (Err n) = parties + number_of n - 1
+
+-- The first places hold the weights w of the n half-hours from first on, which add to s.
+pub record WeighedInto (w : ℕ → ℕ) (first n : ℕ) (weights : List ℕ) (s : ℕ) : Type 0 where
+  pub places : (i : ℕ) → i < n → slice_index weights i ≡ w (first + i)
+  pub sum : s ≡ before (from w first) n
 
 -- The weights w of the half-hours from first to end - 1 stand in their places, and add to s.
 pub record Weighed (w : ℕ → ℕ) (first end : ℕ) (weights : List ℕ) (s : ℕ) : Type 0 where
@@ -41,9 +44,9 @@ OwnWeights x a b e weights (Ok r) = FirstAnomaly x a b e None × OfParty x a b r
 OwnWeights x a b e weights (Err n) = FirstAnomaly x a b e (Some (number_of n))
 
 -- The party of an account is that of the span's days.
-abbrev pub PartyOf : Metering → ℕ → ℕ → Account → Type 0
-PartyOf x a b (Party p) = OfParty x a b p
-PartyOf x a b (OfAnomaly n) = Unit {0}
+abbrev pub PartyOf : Metering → ℕ → ℕ → Result ℕ Anomaly → Type 0
+PartyOf x a b (Ok p) = OfParty x a b p
+PartyOf x a b (Err n) = Unit {0}
 
 -- The judgement on a span of energy e over the days a to b - 1, with its weights in their places.
 pub record JudgedSo (x : Metering) (a b e : ℕ) (weights : List ℕ) (j : Judgement) : Type 0 where

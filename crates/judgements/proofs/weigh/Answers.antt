@@ -1,23 +1,20 @@
-use Rattle.std.proofs.Common.{◌≡◌, ℕ, ◌<◌, ◌≤◌, length, ap, subst, arith, length-set, rules}
-use Rattle.judgements.specs.Judgements.{Weighed}
+use Rattle.std.proofs.Common.{◌≡◌, ℕ, ◌<◌, length, subst, arith}
+use Rattle.judgements.specs.Judgements.{WeighedInto}
 use Rattle.judgements.proofs.Weighings.{weighed_none, weighed_more}
 use Rattle.judgements.proofs.weigh.Goals as goal
 
-pub loop-t-init : goal.loop-t-init
-loop-t-init g c = ((λ h k. weighed_none _ _ _), omega arith, search rules)
+pub loop-i-init : goal.loop-i-init
+loop-i-init g c = record { weighed = λ h k. weighed_none _ _ _; light = omega arith }
 
-pub loop-t-preserved : goal.loop-t-preserved
-loop-t-preserved g c =
-    let room : c.loop-t.t < length c.loop-t.weights = omega (arith, c.loop-t.invariant.2) in (
-      (λ h k. weighed_more _ c.args.first c.loop-t.t c.weight_at-weight.result c.loop-t.sum c.loop-t.weights (omega arith) room (c.weight_at-weight.ensures.value h (omega arith)) (c.loop-t.invariant.0 h k)),
-      omega (arith, c.loop-t.invariant.1, c.weight_at-weight.ensures.bound),
-      simp length-set c.loop-t.invariant.2,
-    )
-
-pub returns : goal.returns
-returns g c =
-    let end : c.loop-t.t ≡ c.args.end = omega arith in
+pub loop-i-preserved : goal.loop-i-preserved
+loop-i-preserved g c =
+    let room : c.loop-i.i < length c.loop-i.weights = omega arith in
     record {
-      weighed = λ h k. subst (λ (n : ℕ). Weighed (g.S.ProfileSource.weighs c.args.source.now c.args.sub_profile) c.args.first n c.loop-t.weights c.loop-t.sum) end (c.loop-t.invariant.0 h k);
-      bound = omega (arith, c.loop-t.invariant.1);
+      weighed = λ h k. weighed_more _ c.args.first c.loop-i.i c.from-sum.result c.loop-i.sum c.loop-i.weights room (c.weight_at.ensures.value h (omega arith)) (c.loop-i.invariant.weighed h k);
+      light = omega (arith, c.loop-i.invariant.light, c.weight_at.ensures.bound);
     }
+
+pub returns-clause-weighed : goal.returns-clause-weighed
+returns-clause-weighed g c = λ h k.
+    let end : c.loop-i.i ≡ length c.args.weights.now = omega arith in
+    subst (λ (n : ℕ). WeighedInto (g.S.ProfileSource.weighs c.args.source.now c.args.sub_profile) c.args.first n c.loop-i.weights c.loop-i.sum) end (c.loop-i.invariant.weighed h k)
