@@ -3,7 +3,7 @@
 #![tactic(auto)]
 
 ghost use Rattle.std.specs.Prelude.{◌≡◌, ℕ, ◌+◌, ◌-◌, ◌*◌, ◌<◌, ◌≤◌, min, true, ◌&&◌, length, if◌then◌else◌, Some, None, MatchOption, OnSome, ◌≢◌};
-ghost use Rattle.sharing.specs.Shares.{before, running_share, weighed, total, weighable, divisible, shared_over, Figures};
+ghost use Rattle.sharing.specs.Shares.{before, running_share, weighed, total, weighable, divisible, shared_over, Figures, Written};
 ghost use Rattle.sharing.specs.Laws.{RunningLaws, Fair, EverySpanFair};
 
 // The largest energy that can be shared, in Wh: an index has nine digits.
@@ -69,6 +69,19 @@ impl Sharing {
         self.given = given;
         figure
     }
+
+    // Writes the figure of each weight into its place, as far as both lists go. Further places stay.
+    pub fn write_figures(mut self, weights: &[u32], figures: &mut [u32])
+        ensures { Written self.energy self.all self.behind weights.now figures.old figures.new }
+    {
+        // No `zip`: of places written through one a proof knows the number alone.
+        for (t, figure) in figures.iter_mut().enumerate() {
+            let Some(weight) = weights.get(t) else {
+                return;
+            };
+            *figure = self.next_figure(*weight);
+        }
+    }
 }
 
 // The sum of the weights; none where there are more than 1,680 or one is over 1,000,000.
@@ -95,18 +108,11 @@ pub fn share(energy: u32, weights: &[u32], figures: &mut [u32]) -> Option<u64>
     ensures figures { Figures energy weights.now figures.old result figures.new }
     ensures fair { OnSome result (Fair energy (weighed weights.now) (length weights.now)) }
 {
-    let Some(all) = total_weight(weights) else {
-        return None;
-    };
+    let all = total_weight(weights)?;
     if weights.len() > figures.len() {
         return None;
     }
-    let Some(mut sharing) = Sharing::over(energy, all) else {
-        return None;
-    };
-    for t in 0..weights.len() {
-        figures[t] = sharing.next_figure(weights[t]);
-    }
+    Sharing::over(energy, all)?.write_figures(weights, figures);
     Some(all)
 }
 
