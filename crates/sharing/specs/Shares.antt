@@ -1,7 +1,7 @@
 -- How the energy of a span is shared over its half-hours.
 -- E is the energy in Wh; each half-hour has a weight; W is the sum of the weights before a half-hour, S that of all.
 use Rattle.std.specs.Prelude.{◌≡◌, ℕ, zero, suc, ◌+◌, ◌-◌, ◌*◌, ◌/◌, ◌<◌, ◌≤◌, min, Bool, cond, ◌&&◌, List, length, Some, None, Option, nat_le, nat_lt, slice_index}
-use Rattle.lemmas.specs.Every.{every}
+use Rattle.std.specs.List.{list_all}
 
 -- The sum of w over the places before t.
 unfoldable pub before : (ℕ → ℕ) → ℕ → ℕ
@@ -29,7 +29,7 @@ light w = nat_le w 1000000
 
 -- At most 1,680 half-hours, each with a weight of at most 1,000,000.
 abbrev pub weighable : List ℕ → Bool
-weighable ws = nat_le (length ws) 1680 && every light ws
+weighable ws = nat_le (length ws) 1680 && list_all light ws
 
 -- The weights are not all 0 and add to at most what 1,680 half-hours can, and the energy is at most 999,999,999 Wh.
 abbrev pub divisible : ℕ → ℕ → Bool

@@ -37,7 +37,7 @@ fn running(energy: u32, all: u64, behind: u64) -> u32
     requires within { behind ≤ all }
     ensures { result ≡ running_share energy all behind }
 {
-    (energy as u64 * behind / all) as u32
+    (u64::from(energy) * behind / all) as u32
 }
 
 impl Sharing {
@@ -62,7 +62,7 @@ impl Sharing {
         ensures behind { self.new.behind ≡ min (self.old.behind + weight) self.old.all }
         ensures same { (self.new.energy ≡ self.old.energy) × (self.new.all ≡ self.old.all) }
     {
-        let behind = (self.behind + weight as u64).min(self.all);
+        let behind = (self.behind + u64::from(weight)).min(self.all);
         let given = running(self.energy, self.all, behind);
         let figure = given - self.given;
         self.behind = behind;
@@ -88,17 +88,10 @@ impl Sharing {
 fn total_weight(weights: &[u32]) -> Option<u64>
     ensures { result ≡ (if weighable weights.now then Some (total weights.now) else None) }
 {
-    if weights.len() > MOST_HALF_HOURS {
+    if weights.len() > MOST_HALF_HOURS || !weights.iter().all(|weight| *weight <= MOST_WEIGHT) {
         return None;
     }
-    let mut sum: u64 = 0;
-    for weight in weights {
-        if *weight > MOST_WEIGHT {
-            return None;
-        }
-        sum += *weight as u64;
-    }
-    Some(sum)
+    Some(weights.iter().map(|weight| u64::from(*weight)).sum())
 }
 
 // Shares `energy` over half-hours of these weights: writes each one's figure and answers the sum of the weights.
