@@ -1,22 +1,10 @@
 // Making threshold sets, and the extreme test.
 ghost use Rattle.std.specs.Prelude.{◌≡◌, ℕ, ◌+◌, ◌*◌, ◌^◌, ◌<◌, ◌≤◌, true, ◌&&◌, length, if◌then◌else◌, Some, None, MatchResult, nat_le, slice_index, slice_index_or};
-ghost use Rattle.lemmas.specs.Every.{every};
-ghost use Rattle.factors.specs.Sets.{bounded, refusal};
+ghost use Rattle.factors.specs.Sets.{refusal};
 ghost use Rattle.factors.specs.Extremes.{usage_factor, extreme, TestTellsExtremes};
 
 use super::Thresholds;
 use refusals::Refusal;
-
-fn all_bounded(thetas: &[u32]) -> bool
-    ensures { result ≡ every bounded thetas.now }
-{
-    for theta in thetas {
-        if *theta > 50_000 {
-            return false;
-        }
-    }
-    true
-}
 
 // k·kVA·S and the like, which may pass 64 bits.
 fn product(a: u64, b: u128) -> u128
@@ -24,16 +12,17 @@ fn product(a: u64, b: u128) -> u128
     ensures value { result ≡ a * b }
     ensures bound { result < 2 ^ 105 }
 {
-    a as u128 * b
+    u128::from(a) * b
 }
 
+#[tactic(auto, unfolding(crate::specs::Extremes::extreme))]
 fn is_extreme_at(k: u32, theta: u32, kva: u8, energy: u32, weights: u64) -> bool
     ensures { result ≡ extreme k theta kva energy weights }
 {
-    let per_threshold = kva as u128 * weights as u128;
-    let used = 200_000 * energy as u128;
-    let over = product(k as u64, per_threshold);
-    used > over || used + over < product(2 * theta as u64, per_threshold)
+    let per_threshold = u128::from(kva) * u128::from(weights);
+    let used = 200_000 * u128::from(energy);
+    let over = product(u64::from(k), per_threshold);
+    used > over || used + over < product(2 * u64::from(theta), per_threshold)
 }
 
 impl Thresholds {
@@ -42,17 +31,11 @@ impl Thresholds {
     pub fn of(k: u32, thetas: &[u32]) -> Result<Thresholds, Refusal>
         ensures { MatchResult result (λ s. (refusal k thetas.now ≡ None) × (s.k ≡ k) × ((sub : ℕ) → sub < 8 → slice_index s.thetas sub ≡ slice_index thetas.now sub)) (λ e. refusal k thetas.now ≡ Some e) }
     {
-        if thetas.len() < 8 {
-            return Err(Refusal::BufferTooShort);
-        }
-        if k > 50_000 || !all_bounded(&thetas[0..8]) {
+        let thetas = *thetas.first_chunk::<8>().ok_or(Refusal::BufferTooShort)?;
+        if k > 50_000 || !thetas.iter().all(|theta| *theta <= 50_000) {
             return Err(Refusal::ValueOutOfBounds);
         }
-        let mut own = [0u32; 8];
-        for i in 0..8 {
-            own[i] = thetas[i];
-        }
-        Ok(Thresholds { k, thetas: own })
+        Ok(Thresholds { k, thetas })
     }
 
     // Whether the usage factor of a span of this energy and sum of weights is extreme at this power; none for a
@@ -60,16 +43,8 @@ impl Thresholds {
     pub fn is_extreme(&self, sub_profile: u8, kva: u8, energy: u32, weights: u64) -> Option<bool>
         ensures { result ≡ (if nat_le sub_profile 7 then Some (extreme self.now.k (slice_index_or self.now.thetas sub_profile 0) kva energy weights) else None) }
     {
-        if sub_profile > 7 {
-            return None;
-        }
-        Some(is_extreme_at(
-            self.k,
-            self.thetas[sub_profile as usize],
-            kva,
-            energy,
-            weights,
-        ))
+        let theta = self.thetas.get(usize::from(sub_profile))?;
+        Some(is_extreme_at(self.k, *theta, kva, energy, weights))
     }
 }
 
@@ -77,7 +52,7 @@ impl Thresholds {
 pub fn usage_factor_of(energy: u32, weights: u64) -> (u64, u64)
     ensures { result ≡ usage_factor energy weights }
 {
-    (20_000 * energy as u64, weights)
+    (20_000 * u64::from(energy), weights)
 }
 
 // The test says of every span whether its usage factor is extreme.

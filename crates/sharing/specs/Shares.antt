@@ -1,7 +1,7 @@
 -- How the energy of a span is shared over its half-hours.
 -- E is the energy in Wh; each half-hour has a weight; W is the sum of the weights before a half-hour, S that of all.
-use Rattle.std.specs.Prelude.{◌≡◌, ℕ, zero, suc, ◌+◌, ◌-◌, ◌*◌, ◌/◌, ◌<◌, ◌≤◌, Bool, cond, ◌&&◌, List, length, Some, None, Option, nat_le, nat_lt, slice_index}
-use Rattle.lemmas.specs.Every.{every}
+use Rattle.std.specs.Prelude.{◌≡◌, ℕ, zero, suc, ◌+◌, ◌-◌, ◌*◌, ◌/◌, ◌<◌, ◌≤◌, min, Bool, cond, ◌&&◌, List, length, Some, None, Option, nat_le, nat_lt, slice_index}
+use Rattle.std.specs.List.{list_all}
 
 -- The sum of w over the places before t.
 unfoldable pub before : (ℕ → ℕ) → ℕ → ℕ
@@ -29,11 +29,26 @@ light w = nat_le w 1000000
 
 -- At most 1,680 half-hours, each with a weight of at most 1,000,000.
 abbrev pub weighable : List ℕ → Bool
-weighable ws = nat_le (length ws) 1680 && every light ws
+weighable ws = nat_le (length ws) 1680 && list_all light ws
 
 -- The weights are not all 0 and add to at most what 1,680 half-hours can, and the energy is at most 999,999,999 Wh.
 abbrev pub divisible : ℕ → ℕ → Bool
 divisible e s = nat_le e 999999999 && nat_lt 0 s && nat_le s 1680000000
+
+-- The weight that lies behind when t more half-hours have passed: never more than s, the whole.
+abbrev pub passed : ℕ → ℕ → List ℕ → ℕ → ℕ
+passed s behind ws t = min (behind + before (weighed ws) t) s
+
+-- What the running share gains in half-hour t from there on.
+abbrev pub gained : ℕ → ℕ → ℕ → List ℕ → ℕ → ℕ
+gained e s behind ws t = running_share e s (passed s behind ws (t + 1)) - running_share e s (passed s behind ws t)
+
+-- What writing figures leaves in the places it is lent: the gain of each half-hour that has a weight and a place; further
+-- places as they were.
+abbrev pub Written : ℕ → ℕ → ℕ → List ℕ → List ℕ → List ℕ → Type 0
+Written e s behind ws old new =
+    ((t : ℕ) → t < length ws → t < length old → slice_index new t ≡ gained e s behind ws t)
+    × ((t : ℕ) → length ws ≤ t → slice_index new t ≡ slice_index old t)
 
 -- What a sharing answers: the sum of the weights, or nothing where bounds are passed, all weights are 0 or a place is
 -- lacking for a figure.

@@ -3,7 +3,7 @@
 #![tactic(auto)]
 
 ghost use Rattle.std.specs.Prelude.{◌≡◌, ℕ, ◌+◌, ◌-◌, ◌*◌, ◌<◌, ◌≤◌, min, true, ◌&&◌, length, if◌then◌else◌, Some, None, MatchOption, OnSome, ◌≢◌};
-ghost use Rattle.sharing.specs.Shares.{before, running_share, weighed, total, weighable, divisible, shared_over, Figures};
+ghost use Rattle.sharing.specs.Shares.{before, running_share, weighed, total, weighable, divisible, shared_over, Figures, Written};
 ghost use Rattle.sharing.specs.Laws.{RunningLaws, Fair, EverySpanFair};
 
 // The largest energy that can be shared, in Wh: an index has nine digits.
@@ -37,7 +37,7 @@ fn running(energy: u32, all: u64, behind: u64) -> u32
     requires within { behind ≤ all }
     ensures { result ≡ running_share energy all behind }
 {
-    (energy as u64 * behind / all) as u32
+    (u64::from(energy) * behind / all) as u32
 }
 
 impl Sharing {
@@ -62,12 +62,25 @@ impl Sharing {
         ensures behind { self.new.behind ≡ min (self.old.behind + weight) self.old.all }
         ensures same { (self.new.energy ≡ self.old.energy) × (self.new.all ≡ self.old.all) }
     {
-        let behind = (self.behind + weight as u64).min(self.all);
+        let behind = (self.behind + u64::from(weight)).min(self.all);
         let given = running(self.energy, self.all, behind);
         let figure = given - self.given;
         self.behind = behind;
         self.given = given;
         figure
+    }
+
+    // Writes the figure of each weight into its place, as far as both lists go. Further places stay.
+    pub fn write_figures(mut self, weights: &[u32], figures: &mut [u32])
+        ensures { Written self.energy self.all self.behind weights.now figures.old figures.new }
+    {
+        // No `zip`: of places written through one a proof knows the number alone.
+        for (t, figure) in figures.iter_mut().enumerate() {
+            let Some(weight) = weights.get(t) else {
+                return;
+            };
+            *figure = self.next_figure(*weight);
+        }
     }
 }
 
@@ -75,17 +88,10 @@ impl Sharing {
 fn total_weight(weights: &[u32]) -> Option<u64>
     ensures { result ≡ (if weighable weights.now then Some (total weights.now) else None) }
 {
-    if weights.len() > MOST_HALF_HOURS {
+    if weights.len() > MOST_HALF_HOURS || !weights.iter().all(|weight| *weight <= MOST_WEIGHT) {
         return None;
     }
-    let mut sum: u64 = 0;
-    for weight in weights {
-        if *weight > MOST_WEIGHT {
-            return None;
-        }
-        sum += *weight as u64;
-    }
-    Some(sum)
+    Some(weights.iter().map(|weight| u64::from(*weight)).sum())
 }
 
 // Shares `energy` over half-hours of these weights: writes each one's figure and answers the sum of the weights.
@@ -95,18 +101,11 @@ pub fn share(energy: u32, weights: &[u32], figures: &mut [u32]) -> Option<u64>
     ensures figures { Figures energy weights.now figures.old result figures.new }
     ensures fair { OnSome result (Fair energy (weighed weights.now) (length weights.now)) }
 {
-    let Some(all) = total_weight(weights) else {
-        return None;
-    };
+    let all = total_weight(weights)?;
     if weights.len() > figures.len() {
         return None;
     }
-    let Some(mut sharing) = Sharing::over(energy, all) else {
-        return None;
-    };
-    for t in 0..weights.len() {
-        figures[t] = sharing.next_figure(weights[t]);
-    }
+    Sharing::over(energy, all)?.write_figures(weights, figures);
     Some(all)
 }
 

@@ -1,5 +1,5 @@
 -- What a profile source means: how many half-hours it covers, and a weight for each sub-profile and half-hour.
-use Rattle.std.specs.Prelude.{ℕ, ◌<◌, ◌≤◌, cond, ◌&&◌, Some, None, Option, nat_le, nat_lt}
+use Rattle.std.specs.Prelude.{ℕ, ◌+◌, ◌/◌, ◌<◌, ◌≤◌, min, cond, ◌&&◌, Some, None, Option, nat_le, nat_lt}
 
 -- At most 1,680 half-hours are covered: 35 days.
 abbrev pub Short : ℕ → Type 0
@@ -16,3 +16,7 @@ answer covered weights sub t = cond (nat_le sub 7 && nat_lt t covered) (Some (we
 -- What a source covers that is told a number of half-hours: that number, or none of more than 1,680.
 abbrev pub coverable : ℕ → ℕ
 coverable n = cond (nat_le n 1680) n 0
+
+-- The weight of so many billionths, in ten-thousandths: to the nearest (the half goes up), cut at 1,000,000.
+abbrev pub nearest : ℕ → ℕ
+nearest billionths = min ((billionths + 50000) / 100000) 1000000

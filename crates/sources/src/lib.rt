@@ -2,7 +2,7 @@
 #![tactic(auto)]
 
 ghost use Rattle.std.specs.Prelude.{◌≡◌, ℕ, ◌<◌, ◌≤◌, IfSome};
-ghost use Rattle.sources.specs.Meaning.{Short, Light, answer, coverable};
+ghost use Rattle.sources.specs.Meaning.{Short, Light, answer, coverable, nearest};
 
 // A source of weights, in ten-thousandths. Its meaning is given by the ghost members. No more is asked of a source than
 // the clauses say: of sub-profiles past 7 and half-hours past those covered, `weighs` may be anything. The two laws are
@@ -22,6 +22,13 @@ pub trait ProfileSource {
     fn weight(&self, sub_profile: u8, half_hour: usize) -> Option<u32>
         ensures answer { result ≡ answer (covers self.now) (weighs self.now) sub_profile half_hour }
         ensures within { IfSome result (λ w. (w ≤ 1000000) × (half_hour < 1680)) };
+}
+
+// A weight that is given in billionths, in ten-thousandths: to the nearest (the half goes up), cut at the largest weight.
+pub fn nearest_weight(billionths: u64) -> u32
+    ensures { result ≡ nearest billionths }
+{
+    (billionths.saturating_add(50_000) / 100_000).min(1_000_000) as u32
 }
 
 // The flat source: the same weight everywhere.
