@@ -35,10 +35,7 @@ module _ (x : Metering) (a b e : ℕ) (lt : a < b) (g : Grounds) (on : Grounded 
 pub ones : (x : Metering) (a b n : ℕ) (ws : List ℕ) → ((t : ℕ) → 48 * a ≤ t → t < 48 * b → get_or ws t 0 ≡ 1) → WeighedFor x a b (Some n) ws (48 * b - 48 * a)
 ones x a b n ws h = record { places = h; sum = sym (before_ones (from (used x (Some n)) (48 * a)) (48 * b - 48 * a) (λ t. refl)) }
 
--- the judgement, in both cases
-pub party_judged : (x : Metering) (a b e : ℕ) (ws : List ℕ) (p s : ℕ) → OwnWeights x a b e ws (Ok (p, s)) → s ≤ 1680000000 → JudgedSo x a b e ws (record { account = Ok p; all = s })
-party_judged x a b e ws p s h le = record { first = h.0; party = h.1; weighed = h.2; bound = le }
-
+-- the judgement on a span with an anomaly
 pub anomaly_judged : (x : Metering) (a b e : ℕ) (old ws : List ℕ) (n : Anomaly) (s : ℕ) → OwnWeights x a b e old (Err n) → ((t : ℕ) → 48 * a ≤ t → t < 48 * b → get_or ws t 0 ≡ 1) → s ≡ 48 * b - 48 * a → b ≤ 35 → JudgedSo x a b e ws (record { account = Err n; all = s })
 anomaly_judged x a b e old ws n s h one is le = record {
   first = h;

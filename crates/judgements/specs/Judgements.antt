@@ -2,13 +2,20 @@
 use Rattle.std.specs.Prelude.{◌≡◌, ℕ, ◌+◌, ◌-◌, ◌*◌, ◌<◌, ◌≤◌, List, Some, None, Ok, Err, Option, Result, slice_index}
 use Rattle.sharing.specs.Shares.{before}
 use Rattle.book_rules.specs.declared.Situation.{Situation}
+use Rattle.book.specs.Books.{contents}
 use Rattle.span_rules.specs.Spans.{Lies}
-use Rattle.span_rules.specs.Days.{Metering, serving, from}
+use Rattle.span_rules.specs.Days.{Metering, metering, serving, from}
 use Rattle.span_rules.specs.Anomalies.{FirstAnomaly}
 use Rattle.span_rules.specs.Figures.{used}
 use Rattle.spans.specs.declared.Anomaly.{Anomaly}
 use Rattle.spans.specs.Numbers.{number_of}
+use Rattle.judgements.specs.declared.MeteredDial.{MeteredDial}
 use Rattle.judgements.specs.declared.Judgement.{Judgement}
+
+-- What a dial of a site in a book is metered by: the dial's situations and indexes as the book holds them, the weights of
+-- the source, and the thresholds.
+abbrev pub meaning : {S : Type 0} → (S → ℕ → ℕ → ℕ) → MeteredDial S → Metering
+meaning weighs d = metering (contents d.at.book.now) (weighs d.source.now) d.thresholds.now d.at.site d.at.dial
 
 -- An account is a party's, or that of an anomaly. The anomaly, by its number; none where the account is a party's.
 abbrev pub anomaly_in : Result ℕ Anomaly → Option ℕ

@@ -3,9 +3,7 @@
 #![tactic(auto)]
 
 ghost use Rattle.std.specs.Prelude.{◌≡◌, ℕ, ◌+◌, ◌-◌, ◌*◌, ◌<◌, ◌≤◌, IfOk, length, slice_index};
-ghost use Rattle.book.specs.Books.{contents};
-ghost use Rattle.span_rules.specs.Days.{metering};
-ghost use Rattle.judgements.specs.Judgements.{JudgedSo, WeighedInto, OwnWeights};
+ghost use Rattle.judgements.specs.Judgements.{meaning, JudgedSo, WeighedInto, OwnWeights};
 
 use factors::Thresholds;
 use sources::ProfileSource;
@@ -60,7 +58,7 @@ impl<S: ProfileSource> MeteredDial<'_, S> {
     fn party_of(&self, span: DialSpan, weights: &mut [u32; 1680]) -> Result<(u8, u64), Anomaly>
         requires { (span.from ≤ span.to) × (span.to ≤ 35) }
         ensures bound { IfOk result (λ v. v.1 ≤ 1680000000) }
-        ensures own { span.from < span.to → 48 * span.to ≤ S.covers self.now.source.now → OwnWeights (metering (contents self.now.at.book.now) (S.weighs self.now.source.now) self.now.thresholds.now self.now.at.site self.now.at.dial) span.from span.to span.energy weights.new result }
+        ensures own { span.from < span.to → 48 * span.to ≤ S.covers self.now.source.now → OwnWeights (meaning S.weighs self.now) span.from span.to span.energy weights.new result }
     {
         let grounds = self.at.grounds(span.from, span.to)?;
         let first = 48 * span.from as usize;
@@ -76,7 +74,7 @@ impl<S: ProfileSource> MeteredDial<'_, S> {
     // the source's for the party of the one situation that its days lie in, or 1 each for its first anomaly. A span past
     // day 35 is judged up to there.
     pub fn judge(&self, span: DialSpan, weights: &mut [u32; 1680]) -> Judgement
-        ensures { span.from < span.to → span.to ≤ 35 → 48 * span.to ≤ S.covers self.now.source.now → JudgedSo (metering (contents self.now.at.book.now) (S.weighs self.now.source.now) self.now.thresholds.now self.now.at.site self.now.at.dial) span.from span.to span.energy weights.new result }
+        ensures { span.from < span.to → span.to ≤ 35 → 48 * span.to ≤ S.covers self.now.source.now → JudgedSo (meaning S.weighs self.now) span.from span.to span.energy weights.new result }
     {
         let to = span.to.min(35);
         let span = DialSpan {

@@ -10,7 +10,7 @@ pub loop-i-preserved : goal.loop-i-preserved
 loop-i-preserved g c =
     let room : c.loop-i.i < length c.loop-i.weights = omega arith in
     record {
-      weighed = λ h k. weighed_more _ c.args.first c.loop-i.i c.from-sum.result c.loop-i.sum c.loop-i.weights room (c.weight_at.ensures.value h (omega arith)) (c.loop-i.invariant.weighed h k);
+      weighed = λ h k. weighed_more _ c.args.first c.loop-i.i c.weight_at.result c.from-sum.result c.loop-i.sum c.loop-i.weights room (c.weight_at.ensures.value h (omega arith)) c.from-sum.ensures (c.loop-i.invariant.weighed h k);
       light = omega (arith, c.loop-i.invariant.light, c.weight_at.ensures.bound);
     }
 
