@@ -1,41 +1,34 @@
--- Figures written place by place. Assumes nothing.
-use Rattle.std.proofs.Common.{◌≡◌, ℕ, ◌+◌, ◌-◌, ◌*◌, ◌<◌, ◌≤◌, min, ◌⊎◌, List, length, get_or, set, sym, refl, ap, ◌∙◌, inl, inr, ⊎_elim, arith, get_or-set_other, get_or-set_same}
-use Rattle.std.proofs.lemmas.Bool.{cases_lt}
-use Rattle.sharing.specs.Shares.{before, running_share, figure}
-use Rattle.sharing.proofs.Sums.{before_none}
+-- Figures written into a part of the places, by weights in a part of theirs. Assumes nothing.
+use Rattle.std.proofs.Common.{◌≡◌, ℕ, ◌+◌, ◌-◌, ◌*◌, ◌<◌, ◌≤◌, ◌⊎◌, List, length, get_or, sym, refl, ap, ◌∙◌, inl, inr, ⊎_elim, arith, rules, length-take, length-drop}
+use Rattle.std.specs.List.{between}
+use Rattle.std.proofs.lemmas.List.{places}
+use Rattle.std.proofs.lemmas.List.Edits.{get_or-between}
+use borrow.Rule.Slice.PartMut.{put_mid, mid_of}
+use Rattle.sharing.specs.Shares.{before, figure, weighed, total}
 use Rattle.span_rules.specs.Days.{from}
-use Rattle.span_rules.proofs.Steps.{stepped_at}
+use Rattle.span_rules.proofs.Sums.{before_same}
+use Rattle.span_rules.proofs.Curves.{figure_same}
 
--- the figures before half-hour t are written, and their weights lie behind
-pub record SoFar (e : ℕ) (w : ℕ → ℕ) (first end t behind : ℕ) (new : List ℕ) : Type 0 where
-  pub behind_is : behind ≡ before (from w first) (t - first)
-  pub here : (i : ℕ) → i < t - first → get_or new (first + i) 0 ≡ figure e (from w first) (end - first) i
+module _ (first end : ℕ) (ws : List ℕ) (le : first ≤ end) (room : end ≤ length ws) where
+  pub length_part : length (between first end ws) ≡ end - first
+  length_part = simp (length-take, length-drop) (omega arith)
 
-pub so_far_none : (e : ℕ) (w : ℕ → ℕ) (first end behind : ℕ) (new : List ℕ) → behind ≡ 0 → SoFar e w first end first behind new
-so_far_none e w first end behind new h = record {
-  behind_is = h ∙ (sym (before_none (from w first)) ∙ ap (before (from w first)) (let k : 0 ≡ first - first = omega arith in k));
-  here = λ i lt. absurd (omega arith);
-}
+  part_at : (i : ℕ) → i < end - first → weighed (between first end ws) i ≡ from (weighed ws) first i
+  part_at i lt = get_or-between ws first end i 0 (omega arith)
 
--- one more, by a sharing of this energy (e₁) and this sum of weights (all₁)
-pub so_far_more : (e e₁ : ℕ) (w : ℕ → ℕ) (first end t all all₁ behind after x given : ℕ) (new : List ℕ) → e₁ ≡ e → all₁ ≡ all → first ≤ t → t < end → t < length new → all ≡ before (from w first) (end - first) → x ≡ w t
-    → after ≡ min (behind + x) all₁ → given ≡ running_share e₁ all₁ after - running_share e₁ all₁ behind → SoFar e w first end t behind new → SoFar e w first end (t + 1) after (set new t given)
-so_far_more e e₁ w first end t all all₁ behind after x given new same_e same_all lo hi room whole is moved gain was =
-    let i = t - first in
-    let more : t + 1 - first ≡ i + 1 = omega arith in
-    let s = stepped_at e e₁ w first end t all all₁ behind after x given same_e same_all lo hi whole is moved gain was.behind_is in
-    record {
-      behind_is = s.behind_is ∙ ap (before (from w first)) (sym more);
-      here = λ k lt.
-          ⊎_elim {C = get_or (set new t given) (first + k) 0 ≡ figure e (from w first) (end - first) k}
-          (λ (early : k < i). get_or-set_other new t (first + k) given 0 (λ same. omega arith) ∙ was.here k early)
-          (λ (late : i ≤ k).
-          let same : k ≡ i = omega arith in
-          let place : first + k ≡ t = omega arith in
-          ap (λ (j : ℕ). get_or (set new t given) j 0) place ∙ (get_or-set_same new t given 0 room ∙ (s.figure_given ∙ ap (figure e (from w first) (end - first)) (sym same))))
-          (cases_lt k i);
-    }
+  pub total_part : total (between first end ws) ≡ before (from (weighed ws) first) (end - first)
+  total_part = ap (before (weighed (between first end ws))) length_part ∙ before_same _ _ (end - first) part_at
 
--- a place outside those that are written stays
-pub kept : (first end t given k : ℕ) (new : List ℕ) → first ≤ t → t < end → (k < first) ⊎ (end ≤ k) → get_or (set new t given) k 0 ≡ get_or new k 0
-kept first end t given k new lo hi out = get_or-set_other new t k given 0 (λ same. ⊎_elim {C = ⊥} (λ (h : k < first). omega arith) (λ (h : end ≤ k). omega arith) out)
+  pub figure_part : (e i : ℕ) → i < end - first → figure e (weighed (between first end ws)) (length (between first end ws)) i ≡ figure e (from (weighed ws) first) (end - first) i
+  figure_part e i lt = ap (λ (n : ℕ). figure e (weighed (between first end ws)) n i) length_part ∙ figure_same e _ _ (end - first) i part_at lt
+
+module _ (first end : ℕ) (old new : List ℕ) (le : first ≤ end) (room : end ≤ length old) (long : length new ≡ length (mid_of first (end - first) old)) where
+  as_long : length new ≡ end - first
+  as_long = long ∙ simp (length-take, length-drop) (omega arith)
+
+  pub mid_at : (t : ℕ) → first ≤ t → t < end → get_or (put_mid first (end - first) old new) t 0 ≡ get_or new (t - first) 0
+  mid_at t lo hi = let k = as_long in search (rules, places)
+
+  pub around_mid : (t : ℕ) → (t < first) ⊎ (end ≤ t) → get_or (put_mid first (end - first) old new) t 0 ≡ get_or old t 0
+  around_mid t (inl h) = let k = as_long in search (rules, places)
+  around_mid t (inr h) = let k = as_long in search (rules, places)

@@ -1,6 +1,8 @@
 -- The curve of a dial, written span by span. Assumes nothing.
-use Rattle.std.proofs.Common.{◌≡◌, ℕ, ◌+◌, ◌-◌, ◌*◌, ◌<◌, ◌≤◌, Bool, true, false, cond, ltb, ◌⊎◌, List, get_or, Some, None, Option, sym, refl, ap, ◌∙◌, subst, inl, inr, ⊎_elim, arith}
+use Rattle.std.proofs.Common.{◌≡◌, ℕ, ◌+◌, ◌-◌, ◌*◌, ◌<◌, ◌≤◌, Bool, true, false, cond, ltb, ◌⊎◌, List, length, get_or, Some, None, Option, sym, refl, ap, ◌∙◌, subst, inl, inr, ⊎_elim, arith}
 use Rattle.std.proofs.lemmas.Bool.{cases_lt, cond-true, cond-false, lt-ltb, le-ltb}
+use Rattle.std.specs.List.{between}
+use borrow.Rule.Slice.PartMut.{put_mid, mid_of}
 use Rattle.span_rules.specs.Spans.{Span, Lies}
 use Rattle.span_rules.specs.Days.{Metering, from}
 use Rattle.span_rules.specs.Anomalies.{FirstAnomaly}
@@ -14,6 +16,7 @@ use Rattle.judgements.specs.Judgements.{JudgedSo}
 use Rattle.judgements.proofs.Figures.{weights_some, weights_all, figure_by_weights}
 use Rattle.curves.specs.Writing.{SharedOut, Cleared, SpanWritten, SpansWritten}
 use Rattle.curves.specs.Answers.{in_places}
+use Rattle.curves.proofs.Places.{length_part, total_part, figure_part, mid_at, around_mid}
 
 -- no index stands past the days
 pub within_days : (days : ℕ) (on : ℕ → Option ℕ) → Tracked days on → WithinDays on days
@@ -24,19 +27,26 @@ within_days days on t d late = by (on d) refl
     by (Some v) e = absurd (omega (arith, t.within d v e))
 
 -- the figures of one span, by the weights of its judgement
-pub span_written : (x : Metering) (a b e : ℕ) (ws old new : List ℕ) (j : Judgement) → a < b → JudgedSo x a b e ws j → SharedOut e j.all (λ t. get_or ws t 0) (48 * a) (48 * b) old new → SpanWritten x a b e old new
-span_written x a b e ws old new j lt judged h = record {
-  here = λ n first small t lies.
-      let i = t - 48 * a in
-      let at : 48 * a + i ≡ t = omega (arith, lies.begun) in
-      let lies₁ = lies.not_over in
-      ap (λ (k : ℕ). get_or new k 0) (sym at)
-      ∙ (h.here small (weights_some x a b e ws j lt judged) judged.bound (weights_all x a b e ws j judged) i (omega arith)
-      ∙ (figure_by_weights x a b e ws j lt judged n first i (omega arith) ∙ ap (figure_in x a b e n) at));
-  other = λ t out.
-      h.other t (⊎_elim {C = (t < 48 * a) ⊎ (48 * b ≤ t)} (λ (early : t < 48 * a). inl early)
-      (λ (lo : 48 * a ≤ t). ⊎_elim {C = (t < 48 * a) ⊎ (48 * b ≤ t)} (λ (hi : t < 48 * b). absurd (out (record { begun = lo; not_over = hi }))) (λ (late : 48 * b ≤ t). inr late) (cases_lt t (48 * b))) (cases_lt t (48 * a)));
-}
+module _ (x : Metering) (a b e : ℕ) (ws old new : List ℕ) (j : Judgement) (forward : a < b) (weights : 48 * b ≤ length ws) (places : 48 * b ≤ length old) (long : length new ≡ length (mid_of (48 * a) (48 * b - 48 * a) old)) (judged : JudgedSo x a b e ws j) where
+  pub span_written : SharedOut e j.all (between (48 * a) (48 * b) ws) new → SpanWritten x a b e old (put_mid (48 * a) (48 * b - 48 * a) old new)
+  span_written h = record {
+    here = λ n first small t lies.
+        let i = t - 48 * a in
+        let lo = lies.begun in let hi = lies.not_over in
+        let at : 48 * a + i ≡ t = omega arith in
+        let le : 48 * a ≤ 48 * b = omega arith in
+        let part : i < 48 * b - 48 * a = omega arith in
+        mid_at (48 * a) (48 * b) old new le places long t lo hi
+        ∙ (h small (weights_some x a b e ws j forward judged) judged.bound (weights_all x a b e ws j judged ∙ sym (total_part (48 * a) (48 * b) ws le weights)) i (omega (arith, length_part (48 * a) (48 * b) ws le weights))
+        ∙ (figure_part (48 * a) (48 * b) ws le weights e i part
+        ∙ (figure_by_weights x a b e ws j forward judged n first i part ∙ ap (figure_in x a b e n) at)));
+    other = λ t out. around_mid (48 * a) (48 * b) old new (omega arith) places long t (outside t out);
+  }
+    where
+      outside : (t : ℕ) → (Lies a b t → ⊥) → (t < 48 * a) ⊎ (48 * b ≤ t)
+      outside t out =
+          ⊎_elim {C = (t < 48 * a) ⊎ (48 * b ≤ t)} (λ (early : t < 48 * a). inl early)
+          (λ (lo : 48 * a ≤ t). ⊎_elim {C = (t < 48 * a) ⊎ (48 * b ≤ t)} (λ (hi : t < 48 * b). absurd (out (record { begun = lo; not_over = hi }))) (λ (late : 48 * b ≤ t). inr late) (cases_lt t (48 * b))) (cases_lt t (48 * a))
 
 module _ (x : Metering) (days : ℕ) where
   pub spans_none : (old new : List ℕ) → Cleared (48 * days) old new → SpansWritten x days 0 new new

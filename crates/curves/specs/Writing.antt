@@ -1,16 +1,15 @@
 -- The figures of spans, written into the places of their half-hours.
-use Rattle.std.specs.Prelude.{◌≡◌, ℕ, ◌+◌, ◌-◌, ◌*◌, ◌<◌, ◌≤◌, ◌⊎◌, List, Some, None, Option, slice_index}
-use Rattle.sharing.specs.Shares.{before, figure}
+use Rattle.std.specs.Prelude.{◌≡◌, ℕ, ◌+◌, ◌-◌, ◌*◌, ◌<◌, ◌≤◌, List, length, Some, None, Option, slice_index}
+use Rattle.sharing.specs.Shares.{figure, weighed, total}
 use Rattle.span_rules.specs.Spans.{Span, Lies}
 use Rattle.span_rules.specs.Days.{Metering, from}
 use Rattle.span_rules.specs.Anomalies.{FirstAnomaly}
 use Rattle.span_rules.specs.Figures.{Judged, figure_in}
 
--- An energy was shared over the half-hours from first to end - 1 by their weights w, which add to s, where it can be
--- shared; all other places are as they were.
-pub record SharedOut (e s : ℕ) (w : ℕ → ℕ) (first end : ℕ) (old new : List ℕ) : Type 0 where
-  pub here : e ≤ 999999999 → 0 < s → s ≤ 1680000000 → s ≡ before (from w first) (end - first) → (i : ℕ) → i < end - first → slice_index new (first + i) ≡ figure e (from w first) (end - first) i
-  pub other : (t : ℕ) → (t < first) ⊎ (end ≤ t) → slice_index new t ≡ slice_index old t
+-- An energy was shared over half-hours by their weights, which add to s, where it can be shared.
+abbrev pub SharedOut : ℕ → ℕ → List ℕ → List ℕ → Type 0
+SharedOut e s weights new =
+    e ≤ 999999999 → 0 < s → s ≤ 1680000000 → s ≡ total weights → (i : ℕ) → i < length weights → slice_index new i ≡ figure e (weighed weights) (length weights) i
 
 -- The first places hold 0, the others are as they were.
 pub record Cleared (count : ℕ) (old new : List ℕ) : Type 0 where

@@ -1,118 +1,90 @@
 // The half-hourly curve of a dial, and the usage factor of its span around a day. docs/spans.md has the rules.
 #![tactic(auto)]
 
-ghost use Rattle.std.specs.Prelude.{◌≡◌, ◌*◌, ◌<◌, ◌≤◌, length, IfNone};
-ghost use Rattle.book.specs.Books.{setup, contents, ruled};
+ghost use Rattle.std.specs.Prelude.{◌≡◌, ◌≤◌, length, OnOk};
+ghost use Rattle.book.specs.Books.{setup, contents, answered};
 ghost use Rattle.book_rules.specs.Tests.{first as first_test};
-ghost use Rattle.span_rules.specs.Days.{metering};
-ghost use Rattle.curves.specs.Asking.{half_hours, curve_tests, factor_tests};
+ghost use Rattle.judgements.specs.Judgements.{meaning};
+ghost use Rattle.curves.specs.Asking.{half_hours, metering_tests, curve_tests, factor_tests};
 ghost use Rattle.curves.specs.Answers.{CurveAnswer, FactorAnswer};
 
-use book::store::Book;
-use factors::Thresholds;
 use factors::sets::usage_factor_of;
-use judgements::{Account, judge};
+use judgements::MeteredDial;
 use refusals::Refusal;
 use sources::ProfileSource;
-use spans::finding::{index_days, span_around};
 use writing::write_curve;
 
 mod writing;
 
-// Why a curve is refused, if it is.
-fn curve_ruling<S: ProfileSource>(
-    book: &Book,
-    source: &S,
-    site: u16,
-    dial: u8,
-    places: usize,
-) -> Option<Refusal>
-    ensures value { ruled result ≡ first_test (curve_tests (setup book.now) (S.covers source.now) places site dial) }
-    ensures known { IfNone result ((half_hours (setup book.now) ≤ places) × (S.covers source.now ≡ half_hours (setup book.now))) }
+// What is asked for a curve and for a factor alike: that there is such a dial, and that the source covers the book.
+fn check_metering<S: ProfileSource>(of: &MeteredDial<'_, S>) -> Result<(), Refusal>
+    ensures value { answered result ≡ first_test (metering_tests (setup of.now.at.book.now) (S.covers of.now.source.now) of.now.at.dial) }
+    ensures known { OnOk result (S.covers of.now.source.now ≡ half_hours (setup of.now.at.book.now)) }
 {
-    let half_hours = 48 * book.days() as usize;
-    if places < half_hours {
-        return Some(Refusal::BufferTooShort);
+    if of.at.dial < 1 || of.at.dial > 2 {
+        return Err(Refusal::UnknownDial);
     }
-    if site >= book.sites() {
-        return Some(Refusal::UnknownSite);
+    if of.source.covered() != 48 * of.at.book.days() as usize {
+        return Err(Refusal::CoverageDiffers);
     }
-    if dial < 1 || dial > 2 {
-        return Some(Refusal::UnknownDial);
+    Ok(())
+}
+
+fn check_curve<S: ProfileSource>(of: &MeteredDial<'_, S>, places: usize) -> Result<(), Refusal>
+    ensures value { answered result ≡ first_test (curve_tests (setup of.now.at.book.now) (S.covers of.now.source.now) places of.now.at.site of.now.at.dial) }
+    ensures known { OnOk result ((half_hours (setup of.now.at.book.now) ≤ places) × (S.covers of.now.source.now ≡ half_hours (setup of.now.at.book.now))) }
+{
+    if places < 48 * of.at.book.days() as usize {
+        return Err(Refusal::BufferTooShort);
     }
-    if source.covered() != half_hours {
-        return Some(Refusal::CoverageDiffers);
+    if of.at.site >= of.at.book.sites() {
+        return Err(Refusal::UnknownSite);
     }
-    None
+    check_metering(of)
 }
 
 // Writes the curve of a dial, a figure in Wh for each half-hour of the book's days and 0 outside spans, and answers the
 // days of the dial's first and last index, or nothing if fewer than two stand. Further places stay.
 pub fn curve<S: ProfileSource>(
-    book: &Book,
-    source: &S,
-    thresholds: &Thresholds,
-    site: u16,
-    dial: u8,
+    of: &MeteredDial<'_, S>,
     figures: &mut [u32],
 ) -> Result<Option<(u8, u8)>, Refusal>
-    ensures { CurveAnswer (setup book.now) (contents book.now) (metering (contents book.now) (S.weighs source.now) thresholds.now site dial) (S.covers source.now) (length figures.old) site dial figures.old result figures.new }
+    ensures { CurveAnswer (setup of.now.at.book.now) (contents of.now.at.book.now) (meaning S.weighs of.now) (S.covers of.now.source.now) (length figures.old) of.now.at.site of.now.at.dial figures.old result figures.new }
 {
-    if let Some(refusal) = curve_ruling(book, source, site, dial, figures.len()) {
-        return Err(refusal);
-    }
-    write_curve(book, source, thresholds, site, dial, figures);
-    Ok(index_days(book, site, dial))
+    check_curve(of, figures.len())?;
+    write_curve(of, figures);
+    Ok(of.at.index_days())
 }
 
-// Why a factor is refused, if it is.
-fn factor_ruling<S: ProfileSource>(
-    book: &Book,
-    source: &S,
-    site: u16,
-    dial: u8,
-    day: u8,
-) -> Option<Refusal>
-    ensures value { ruled result ≡ first_test (factor_tests (setup book.now) (S.covers source.now) site dial day) }
-    ensures known { IfNone result (S.covers source.now ≡ half_hours (setup book.now)) }
+fn check_factor<S: ProfileSource>(of: &MeteredDial<'_, S>, day: u8) -> Result<(), Refusal>
+    ensures value { answered result ≡ first_test (factor_tests (setup of.now.at.book.now) (S.covers of.now.source.now) of.now.at.site of.now.at.dial day) }
+    ensures known { OnOk result (S.covers of.now.source.now ≡ half_hours (setup of.now.at.book.now)) }
 {
-    if site >= book.sites() {
-        return Some(Refusal::UnknownSite);
+    if of.at.site >= of.at.book.sites() {
+        return Err(Refusal::UnknownSite);
     }
-    if day >= book.days() {
-        return Some(Refusal::DayOutOfRange);
+    if day >= of.at.book.days() {
+        return Err(Refusal::DayOutOfRange);
     }
-    if dial < 1 || dial > 2 {
-        return Some(Refusal::UnknownDial);
-    }
-    if source.covered() != 48 * book.days() as usize {
-        return Some(Refusal::CoverageDiffers);
-    }
-    None
+    check_metering(of)
 }
 
 // The usage factor of a dial's span around a day, as the pair 20,000·E and S; nothing without a span or under an
 // anomaly.
 pub fn factor<S: ProfileSource>(
-    book: &Book,
-    source: &S,
-    thresholds: &Thresholds,
-    site: u16,
-    dial: u8,
+    of: &MeteredDial<'_, S>,
     day: u8,
 ) -> Result<Option<(u64, u64)>, Refusal>
-    ensures { FactorAnswer (setup book.now) (contents book.now) (metering (contents book.now) (S.weighs source.now) thresholds.now site dial) (S.covers source.now) site dial day result }
+    ensures { FactorAnswer (setup of.now.at.book.now) (contents of.now.at.book.now) (meaning S.weighs of.now) (S.covers of.now.source.now) of.now.at.site of.now.at.dial day result }
 {
-    if let Some(refusal) = factor_ruling(book, source, site, dial, day) {
-        return Err(refusal);
-    }
-    let Some(span) = span_around(book, site, dial, day) else {
+    check_factor(of, day)?;
+    let Some(span) = of.at.span_around(day) else {
         return Ok(None);
     };
     let mut weights = [0u32; 1680];
-    let judgement = judge(book, source, thresholds, site, dial, span, &mut weights);
+    let judgement = of.judge(span, &mut weights);
     match judgement.account {
-        Account::Party(_) => Ok(Some(usage_factor_of(span.energy, judgement.all))),
-        Account::Anomaly(_) => Ok(None),
+        Ok(_) => Ok(Some(usage_factor_of(span.energy, judgement.all))),
+        Err(_) => Ok(None),
     }
 }

@@ -1,20 +1,18 @@
-use Rattle.std.proofs.Common.{◌≡◌, ℕ, ◌*◌, ◌<◌, ◌≤◌, sym, arith}
+use Rattle.std.proofs.Common.{sym}
 use Rattle.book.specs.Books.{setup, contents}
-use Rattle.span_rules.specs.Days.{Metering, metering}
 use Rattle.span_rules.proofs.Steps.{tracked}
+use Rattle.judgements.specs.Judgements.{meaning}
 use Rattle.curves.proofs.Spans.{curve_written, within_days}
 use Rattle.curves.proofs.curve.Goals as goal
 
 pub returns : goal.returns
 returns g c =
-    let b = c.args.book.now in
-    let x = metering (contents b) (g.S.ProfileSource.weighs c.args.source.now) c.args.thresholds.now c.args.site c.args.dial in
-    let w = c.write_curve.ensures in (
-      sym c.in_default.ensures.value,
+    let at = c.args.of.now.at in let u = setup at.book.now in let w = c.write_curve.ensures in (
+      sym c.in_ok-check_curve.ensures.value,
       record {
         past = w.past;
         told = λ h told.
-            let t = tracked (setup b) h (contents b) told c.args.site c.args.dial in
-            (c.index_days.ensures (within_days (setup b).days _ t), curve_written x (setup b).days _ _ t w);
+            let t = tracked u h (contents at.book.now) told at.site at.dial in
+            (c.index_days.ensures (within_days u.days _ t), curve_written (meaning g.S.ProfileSource.weighs c.args.of.now) u.days _ _ t w);
       },
     )

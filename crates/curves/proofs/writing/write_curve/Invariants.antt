@@ -1,7 +1,7 @@
-use Rattle.book.specs.Books.{setup, contents}
-use Rattle.span_rules.specs.Days.{metering}
+use Rattle.book.specs.Books.{setup}
+use Rattle.judgements.specs.Judgements.{meaning}
 use Rattle.curves.specs.Writing.{SpansWritten}
 use Rattle.curves.proofs.writing.write_curve.Given as goal
 
 abbrev pub invariant-loop-day : goal.invariant-loop-day
-invariant-loop-day g l = SpansWritten (metering (contents l.book) (g.S.ProfileSource.weighs l.source) l.thresholds l.site l.dial) (setup l.book).days l.day l.initial.figures l.figures
+invariant-loop-day g l = SpansWritten (meaning g.S.ProfileSource.weighs l.of) (setup l.of.at.book.now).days l.day l.initial.figures l.figures
