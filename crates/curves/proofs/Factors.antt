@@ -1,11 +1,10 @@
 -- The usage factor of the span around a day, by its judgement. Assumes nothing.
-use Rattle.std.proofs.Common.{◌≡◌, ℕ, ◌+◌, ◌-◌, ◌*◌, ◌<◌, ◌≤◌, List, Some, None, Ok, Err, Option, Result, sym, refl, ap, ◌∙◌, subst, arith}
+use Rattle.std.proofs.Common.{◌≡◌, ℕ, ◌-◌, ◌*◌, List, Some, None, Ok, Err, Result, sym, refl, ap, ◌∙◌, subst, arith}
 use Rattle.sharing.specs.Shares.{before}
 use Rattle.factors.specs.Extremes.{usage_factor}
-use Rattle.span_rules.specs.Spans.{Span}
 use Rattle.span_rules.specs.Days.{Metering, own, own_sum, from}
 use Rattle.span_rules.specs.Anomalies.{FirstAnomaly}
-use Rattle.span_rules.specs.Figures.{Judged, FactorOf, FactorTold}
+use Rattle.span_rules.specs.Figures.{FactorOf, FactorTold}
 use Rattle.span_rules.proofs.Tracks.{one, differ}
 use Rattle.span_rules.proofs.Judging.{one_judgement}
 use Rattle.span_rules.proofs.Curves.{own_sum_is}

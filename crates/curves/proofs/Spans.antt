@@ -1,12 +1,12 @@
 -- The curve of a dial, written span by span. Assumes nothing.
-use Rattle.std.proofs.Common.{◌≡◌, ℕ, ◌+◌, ◌-◌, ◌*◌, ◌<◌, ◌≤◌, Bool, true, false, cond, ltb, ◌⊎◌, List, length, get_or, Some, None, Option, sym, refl, ap, ◌∙◌, subst, inl, inr, ⊎_elim, arith}
+use Rattle.std.proofs.Common.{◌≡◌, ℕ, ◌+◌, ◌-◌, ◌*◌, ◌<◌, ◌≤◌, ◌⊎◌, List, length, get_or, Some, None, Option, sym, refl, ap, ◌∙◌, subst, inl, inr, ⊎_elim, arith}
 use Rattle.std.proofs.lemmas.Bool.{cases_lt, cond-true, cond-false, lt-ltb, le-ltb}
 use Rattle.std.specs.List.{between}
 use borrow.Rule.Slice.PartMut.{put_mid, mid_of}
 use Rattle.span_rules.specs.Spans.{Span, Lies}
-use Rattle.span_rules.specs.Days.{Metering, from}
+use Rattle.span_rules.specs.Days.{Metering}
 use Rattle.span_rules.specs.Anomalies.{FirstAnomaly}
-use Rattle.span_rules.specs.Figures.{used, Judged, figure_in, CurveOf}
+use Rattle.span_rules.specs.Figures.{Judged, figure_in, CurveOf}
 use Rattle.span_rules.proofs.Tracks.{one}
 use Rattle.span_rules.proofs.Steps.{Tracked}
 use Rattle.spans.specs.declared.DialSpan.{DialSpan}
@@ -28,7 +28,7 @@ within_days days on t d late = by (on d) refl
 
 -- the figures of one span, by the weights of its judgement
 module _ (x : Metering) (a b e : ℕ) (ws old new : List ℕ) (j : Judgement) (forward : a < b) (weights : 48 * b ≤ length ws) (places : 48 * b ≤ length old) (long : length new ≡ length (mid_of (48 * a) (48 * b - 48 * a) old)) (judged : JudgedSo x a b e ws j) where
-  pub span_written : SharedOut e j.all (between (48 * a) (48 * b) ws) new → SpanWritten x a b e old (put_mid (48 * a) (48 * b - 48 * a) old new)
+  span_written : SharedOut e j.all (between (48 * a) (48 * b) ws) new → SpanWritten x a b e old (put_mid (48 * a) (48 * b - 48 * a) old new)
   span_written h = record {
     here = λ n first small t lies.
         let i = t - 48 * a in
@@ -47,6 +47,15 @@ module _ (x : Metering) (a b e : ℕ) (ws old new : List ℕ) (j : Judgement) (f
       outside t out =
           ⊎_elim {C = (t < 48 * a) ⊎ (48 * b ≤ t)} (λ (early : t < 48 * a). inl early)
           (λ (lo : 48 * a ≤ t). ⊎_elim {C = (t < 48 * a) ⊎ (48 * b ≤ t)} (λ (hi : t < 48 * b). absurd (out (record { begun = lo; not_over = hi }))) (λ (late : 48 * b ≤ t). inr late) (cases_lt t (48 * b))) (cases_lt t (48 * a))
+
+-- the same where the half-hours are told otherwise, once for the weights and once for the places
+pub span_written_at : (x : Metering) (a b e p q r s : ℕ) (ws old new : List ℕ) (j : Judgement) → p ≡ 48 * a → q ≡ 48 * b → r ≡ 48 * a → s ≡ 48 * b → a < b → 48 * b ≤ length ws → 48 * b ≤ length old → JudgedSo x a b e ws j
+    → length new ≡ length (mid_of r (s - r) old) → SharedOut e j.all (between p q ws) new → SpanWritten x a b e old (put_mid r (s - r) old new)
+span_written_at x a b e p q r s ws old new j p_is q_is r_is s_is forward weights places judged long h =
+    let h₁ = subst (λ (k : ℕ). SharedOut e j.all (between k (48 * b) ws) new) p_is (subst (λ (k : ℕ). SharedOut e j.all (between p k ws) new) q_is h) in
+    let long₁ = subst (λ (k : ℕ). length new ≡ length (mid_of k (48 * b - k) old)) r_is (subst (λ (k : ℕ). length new ≡ length (mid_of r (k - r) old)) s_is long) in
+    let done = span_written x a b e ws old new j forward weights places long₁ judged h₁ in
+    subst (λ (k : ℕ). SpanWritten x a b e old (put_mid r (k - r) old new)) (sym s_is) (subst (λ (k : ℕ). SpanWritten x a b e old (put_mid k (48 * b - k) old new)) (sym r_is) done)
 
 module _ (x : Metering) (days : ℕ) where
   pub spans_none : (old new : List ℕ) → Cleared (48 * days) old new → SpansWritten x days 0 new new

@@ -1,8 +1,8 @@
 -- The figures of spans, written into the places of their half-hours.
-use Rattle.std.specs.Prelude.{◌≡◌, ℕ, ◌+◌, ◌-◌, ◌*◌, ◌<◌, ◌≤◌, List, length, Some, None, Option, slice_index}
+use Rattle.std.specs.Prelude.{◌≡◌, ℕ, ◌-◌, ◌*◌, ◌<◌, ◌≤◌, List, length, Option, slice_index}
 use Rattle.sharing.specs.Shares.{figure, weighed, total}
 use Rattle.span_rules.specs.Spans.{Span, Lies}
-use Rattle.span_rules.specs.Days.{Metering, from}
+use Rattle.span_rules.specs.Days.{Metering}
 use Rattle.span_rules.specs.Anomalies.{FirstAnomaly}
 use Rattle.span_rules.specs.Figures.{Judged, figure_in}
 

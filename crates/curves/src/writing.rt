@@ -34,9 +34,12 @@ fn write_span<S: ProfileSource>(
     ensures { SpanWritten (meaning S.weighs of.now) span.from span.to span.energy figures.old figures.new }
 {
     let judgement = of.judge(span, weights);
-    let first = 48 * span.from as usize;
-    let end = 48 * span.to as usize;
-    share_out(span.energy, judgement.all, &weights[first..end], &mut figures[first..end]);
+    share_out(
+        span.energy,
+        judgement.all,
+        &weights[span.half_hours()],
+        &mut figures[span.half_hours()],
+    );
 }
 
 // Writes 0 into the first places.

@@ -1,5 +1,5 @@
 -- The figures of a span by the weights in their places are those of the rules. Assumes nothing.
-use Rattle.std.proofs.Common.{◌≡◌, ℕ, ◌+◌, ◌-◌, ◌*◌, ◌<◌, ◌≤◌, List, get_or, Option, sym, refl, ap, ◌∙◌, subst, arith}
+use Rattle.std.proofs.Common.{◌≡◌, ℕ, ◌+◌, ◌-◌, ◌*◌, ◌<◌, List, get_or, Option, sym, ap, ◌∙◌, subst, arith}
 use Rattle.sharing.specs.Shares.{before, figure}
 use Rattle.span_rules.specs.Days.{Metering, from}
 use Rattle.span_rules.specs.Anomalies.{FirstAnomaly}

@@ -1,16 +1,15 @@
 -- The party and the weights of a span, from its grounds. Assumes nothing.
-use Rattle.std.proofs.Common.{◌≡◌, ℕ, ◌+◌, ◌-◌, ◌*◌, ◌<◌, ◌≤◌, List, get_or, Some, None, Ok, Err, Option, Result, sym, refl, ap, ◌∙◌, subst, arith}
+use Rattle.std.proofs.Common.{◌≡◌, ℕ, ◌+◌, ◌-◌, ◌*◌, ◌<◌, ◌≤◌, List, get_or, Some, None, Err, Option, sym, refl, ap, ◌∙◌, subst, arith}
 use Rattle.sharing.specs.Shares.{before}
-use Rattle.span_rules.specs.Spans.{Lies}
-use Rattle.span_rules.specs.Days.{Metering, own, own_sum, from}
+use Rattle.span_rules.specs.Days.{Metering, own_sum, from}
 use Rattle.span_rules.specs.Anomalies.{FirstAnomaly}
 use Rattle.span_rules.specs.Figures.{used}
 use Rattle.span_rules.proofs.Sums.{before_same, before_ones}
 use Rattle.spans.specs.declared.Anomaly.{Anomaly}
 use Rattle.spans.specs.declared.Grounds.{Grounds}
 use Rattle.spans.specs.Numbers.{number_of, numbered}
-use Rattle.spans.specs.Judging.{Grounded, GroundsTold, anomaly_by}
-use Rattle.spans.proofs.Judged.{with_grounds, own_by, own_sum_by, sub_profile_bound}
+use Rattle.spans.specs.Judging.{Grounded, anomaly_by}
+use Rattle.spans.proofs.Judged.{with_grounds, own_by, own_sum_by}
 use Rattle.judgements.specs.declared.Judgement.{Judgement}
 use Rattle.judgements.specs.Judgements.{Weighed, OfParty, OwnWeights, WeighedFor, JudgedSo}
 

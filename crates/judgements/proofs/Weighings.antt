@@ -1,5 +1,5 @@
 -- Weights written place by place, and their sum; and a span's places in a longer list. Assumes nothing.
-use Rattle.std.proofs.Common.{◌≡◌, ℕ, ◌+◌, ◌-◌, ◌<◌, ◌≤◌, List, length, get_or, set, sym, refl, ap, ◌∙◌, arith, get_or-set_same, below_more, rules, length-take, length-drop}
+use Rattle.std.proofs.Common.{◌≡◌, ℕ, ◌+◌, ◌-◌, ◌<◌, ◌≤◌, List, length, get_or, set, sym, ap, ◌∙◌, subst, arith, get_or-set_same, below_more, rules, length-take, length-drop}
 use Rattle.std.proofs.lemmas.Grind.{common_steps}
 use Rattle.std.proofs.lemmas.List.{places}
 use borrow.Rule.Slice.PartMut.{put_mid, mid_of}
@@ -32,3 +32,7 @@ module _ (first end : ℕ) (ws : List ℕ) (le : first ≤ end) (room : end ≤ 
         at_mid new long t lo hi ∙ (h.places (t - first) (omega (arith, length_mid)) ∙ ap w at);
     sum = h.sum ∙ ap (before (from w first)) length_mid;
   }
+
+-- half-hours told otherwise
+pub weighed_at : (w : ℕ → ℕ) (first end p q s : ℕ) (ws : List ℕ) → first ≡ p → end ≡ q → Weighed w first end ws s → Weighed w p q ws s
+weighed_at w first end p q s ws e f h = subst (λ (k : ℕ). Weighed w k q ws s) e (subst (λ (k : ℕ). Weighed w first k ws s) f h)

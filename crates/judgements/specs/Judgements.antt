@@ -3,7 +3,6 @@ use Rattle.std.specs.Prelude.{◌≡◌, ℕ, ◌+◌, ◌-◌, ◌*◌, ◌<◌
 use Rattle.sharing.specs.Shares.{before}
 use Rattle.book_rules.specs.declared.Situation.{Situation}
 use Rattle.book.specs.Books.{contents}
-use Rattle.span_rules.specs.Spans.{Lies}
 use Rattle.span_rules.specs.Days.{Metering, metering, serving, from}
 use Rattle.span_rules.specs.Anomalies.{FirstAnomaly}
 use Rattle.span_rules.specs.Figures.{used}

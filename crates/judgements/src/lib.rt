@@ -33,12 +33,7 @@ fn weight_at<S: ProfileSource>(source: &S, sub_profile: u8, t: usize) -> u32
 }
 
 // Writes a source's weights of the half-hours from `first` on into their places and answers their sum.
-fn weigh<S: ProfileSource>(
-    source: &S,
-    sub_profile: u8,
-    first: usize,
-    weights: &mut [u32],
-) -> u64
+fn weigh<S: ProfileSource>(source: &S, sub_profile: u8, first: usize, weights: &mut [u32]) -> u64
     requires { first + length weights.old ≤ 1680 }
     ensures weighed { sub_profile ≤ 7 → first + length weights.old ≤ S.covers source.now → WeighedInto (S.weighs source.now sub_profile) first (length weights.old) weights.new result }
     ensures length { length weights.new ≡ length weights.old }
@@ -61,9 +56,13 @@ impl<S: ProfileSource> MeteredDial<'_, S> {
         ensures own { span.from < span.to → 48 * span.to ≤ S.covers self.now.source.now → OwnWeights (meaning S.weighs self.now) span.from span.to span.energy weights.new result }
     {
         let grounds = self.at.grounds(span.from, span.to)?;
-        let first = 48 * span.from as usize;
-        let end = 48 * span.to as usize;
-        let sum = weigh(self.source, grounds.sub_profile, first, &mut weights[first..end]);
+        let places = span.half_hours();
+        let sum = weigh(
+            self.source,
+            grounds.sub_profile,
+            places.start,
+            &mut weights[places],
+        );
         match grounds.anomaly(self.thresholds, span.energy, sum) {
             Some(anomaly) => Err(anomaly),
             None => Ok((grounds.party, sum)),
@@ -88,12 +87,11 @@ impl<S: ProfileSource> MeteredDial<'_, S> {
                 all,
             },
             Err(anomaly) => {
-                let first = 48 * span.from as usize;
-                let end = 48 * span.to as usize;
-                weights[first..end].fill(1);
+                let places = &mut weights[span.half_hours()];
+                places.fill(1);
                 Judgement {
                     account: Err(anomaly),
-                    all: (end - first) as u64,
+                    all: places.len() as u64,
                 }
             }
         }

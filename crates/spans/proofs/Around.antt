@@ -1,10 +1,10 @@
 -- The span around a day, sought by the day on which it begins. Assumes nothing.
-use Rattle.std.proofs.Common.{◌≡◌, ℕ, ◌+◌, ◌*◌, ◌<◌, ◌≤◌, Bool, true, false, ◌⊎◌, Some, None, Option, sym, refl, ap, ◌∙◌, subst, ⊎_elim, arith}
+use Rattle.std.proofs.Common.{◌≡◌, ℕ, ◌+◌, ◌*◌, ◌<◌, ◌≤◌, true, false, Some, None, Option, subst, ⊎_elim, arith}
 use Rattle.std.proofs.lemmas.Bool.{cases_lt, ltb-true, ltb-false, false≢true}
 use Rattle.span_rules.specs.Spans.{Span}
 use Rattle.span_rules.proofs.Tracks.{one}
 use Rattle.spans.specs.declared.DialSpan.{DialSpan}
-use Rattle.spans.specs.Finding.{Found, Begins, FoundAround, HoldingDay, running_past}
+use Rattle.spans.specs.Finding.{Begins, HoldingDay, running_past}
 
 module _ (on : ℕ → Option ℕ) (days day : ℕ) where
   -- spans that begin on one day are the same

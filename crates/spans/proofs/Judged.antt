@@ -1,6 +1,6 @@
 -- The judgement on a span, from its grounds, its weights and its factor. Assumes nothing.
-use Rattle.std.proofs.Common.{◌≡◌, ℕ, ◌+◌, ◌-◌, ◌*◌, ◌/◌, ◌<◌, ◌≤◌, Bool, true, false, cond, ◌&&◌, eqb, leb, ◌⊎◌, is_some, Some, None, Ok, Err, Option, Result, sym, refl, ap, ◌∙◌, subst, ⊎_elim, arith}
-use Rattle.std.proofs.lemmas.Bool.{eqb-true, eqb-false, and_parts, and_from, le-leb, cond-true, cond-false, cases_Bool, both_ways}
+use Rattle.std.proofs.Common.{◌≡◌, ℕ, ◌+◌, ◌-◌, ◌*◌, ◌/◌, ◌<◌, ◌≤◌, Bool, true, false, cond, ◌&&◌, eqb, leb, is_some, Some, None, Ok, Err, Option, Result, sym, refl, ap, ◌∙◌, subst, arith}
+use Rattle.std.proofs.lemmas.Bool.{eqb-true, eqb-false, and_parts, and_from, le-leb, both_ways}
 use Rattle.refusals.specs.declared.Refusal.{Refusal}
 use Rattle.profiles.specs.declared.Profile.{Profile}
 use Rattle.profiles.specs.Table.{profile_of}
@@ -12,7 +12,7 @@ use Rattle.book_rules.specs.declared.Situation.{Situation}
 use Rattle.book_rules.specs.declared.Terms.{Terms}
 use Rattle.span_rules.specs.Lasts.{later, last_before}
 use Rattle.span_rules.specs.Spans.{Lies}
-use Rattle.span_rules.specs.Days.{Metering, serving, unless_ended, of_profile, sub_profile_under, sub_profile_in, weight_by, own, own_sum, from}
+use Rattle.span_rules.specs.Days.{Metering, serving, of_profile, sub_profile_under, sub_profile_in, weight_by, own, own_sum, from}
 use Rattle.span_rules.specs.Anomalies.{Holds, no_situation, several, no_dial, zero_weight, extreme_factor, FirstAnomaly}
 use Rattle.span_rules.proofs.Sums.{before_same}
 use Rattle.span_rules.proofs.Lasts.{last_more, latest_by}
@@ -23,7 +23,7 @@ use Rattle.spans.specs.declared.Anomaly.{Anomaly}
 use Rattle.spans.specs.declared.Anomaly.TheVariants.{NoSituation, SeveralSituations, NoDial, ZeroWeight, ExtremeFactor}
 use Rattle.spans.specs.declared.Grounds.{Grounds}
 use Rattle.spans.specs.Numbers.{number_of, numbered}
-use Rattle.spans.specs.Judging.{Throughout, Gap, Change, Grounded, Lacking, GroundsTold, anomaly_by}
+use Rattle.spans.specs.Judging.{Throughout, Grounded, GroundsTold, anomaly_by}
 
 -- a sub-profile is 0 to 7
 pub sub_profile_bound : (t : Terms) (dial p : ℕ) → sub_profile_under t dial ≡ Some p → p ≤ 7

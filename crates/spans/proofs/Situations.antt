@@ -1,6 +1,6 @@
 -- The days of a span looked at one by one. Assumes nothing.
-use Rattle.std.proofs.Common.{◌≡◌, ℕ, zero, suc, ◌+◌, ◌-◌, ◌<◌, ◌≤◌, Bool, true, false, cond, not, ◌&&◌, ltb, leb, ◌⊎◌, is_some, Some, None, Option, sym, refl, ap, ◌∙◌, subst, inl, inr, ⊎_elim, arith}
-use Rattle.std.proofs.lemmas.Bool.{cases_lt, true≢false, false≢true, both_ways, and_parts, ltb-true, lt-ltb, leb-true, le-leb, not-true, not-false}
+use Rattle.std.proofs.Common.{◌≡◌, ℕ, ◌+◌, ◌-◌, ◌<◌, ◌≤◌, Bool, true, false, cond, not, ◌&&◌, leb, is_some, Some, None, Option, sym, refl, ap, ◌∙◌, ⊎_elim, arith}
+use Rattle.std.proofs.lemmas.Bool.{cases_lt, true≢false, false≢true, both_ways, and_parts, leb-true, le-leb, not-true, not-false}
 use Rattle.book_rules.specs.declared.Situation.{Situation}
 use Rattle.span_rules.specs.Lasts.{later, last_before}
 use Rattle.span_rules.specs.Days.{not_ended, unless_ended, serving}

@@ -1,5 +1,5 @@
 -- What decides on a span: the situation of its days, the sub-profile of the dial, the weights and the factor.
-use Rattle.std.specs.Prelude.{◌≡◌, ℕ, ◌<◌, ◌≤◌, Bool, true, false, cond, ◌&&◌, is_some, Some, None, Ok, Err, Option, Result, ◌==◌, nat_le}
+use Rattle.std.specs.Prelude.{◌≡◌, ℕ, ◌<◌, ◌≤◌, true, cond, ◌&&◌, is_some, Some, None, Ok, Err, Option, Result, ◌==◌, nat_le}
 use Rattle.factors.specs.Extremes.{extreme}
 use Rattle.book_rules.specs.declared.Situation.{Situation}
 use Rattle.span_rules.specs.Days.{serving, sub_profile_under}

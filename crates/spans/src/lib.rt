@@ -2,10 +2,11 @@
 // sub-profile of the dial, and the anomaly that keeps the energy from a party. docs/spans.md has the rules.
 #![tactic(auto)]
 
-ghost use Rattle.std.specs.Prelude.{◌≡◌};
+ghost use Rattle.std.specs.Prelude.{◌≡◌, ◌*◌};
 ghost use Rattle.spans.specs.Numbers.{number_of};
 
 use book::store::Book;
+use std::ops::Range;
 
 pub mod finding;
 pub mod judging;
@@ -25,6 +26,15 @@ pub struct DialSpan {
     pub from: u8,
     pub to: u8,
     pub energy: u32,
+}
+
+impl DialSpan {
+    // The half-hours of its days, counted from the first of day 0.
+    pub fn half_hours(self) -> Range<usize>
+        ensures { (result.start ≡ 48 * self.from) × (result.end ≡ 48 * self.to) }
+    {
+        48 * usize::from(self.from)..48 * usize::from(self.to)
+    }
 }
 
 // Why the energy of a span goes to no party, each with its number; of several the lowest counts.

@@ -1,4 +1,4 @@
-use Rattle.std.proofs.Common.{◌*◌, ◌<◌, ◌≤◌, sym, subst, arith}
+use Rattle.std.proofs.Common.{sym, subst, arith}
 use Rattle.book.specs.Books.{setup, contents}
 use Rattle.span_rules.specs.Figures.{FactorOf}
 use Rattle.span_rules.proofs.Steps.{tracked}

@@ -1,8 +1,8 @@
-use Rattle.std.proofs.Common.{◌≡◌, ℕ, ◌+◌, List, sym, ap, ◌∙◌, subst, arith}
+use Rattle.std.proofs.Common.{◌≡◌, ℕ, ◌+◌, sym, ◌∙◌, subst, arith}
 use Rattle.book.specs.Books.{setup}
 use Rattle.judgements.specs.Judgements.{meaning}
 use Rattle.curves.specs.Writing.{SpansWritten}
-use Rattle.curves.proofs.Spans.{spans_none, spans_same, spans_more}
+use Rattle.curves.proofs.Spans.{spans_same, spans_more}
 use Rattle.curves.proofs.writing.write_curve.Goals as goal
 use Rattle.curves.proofs.writing.write_curve.Goals.{in-Some, in_default}
 

@@ -1,5 +1,5 @@
-use Rattle.std.proofs.Common.{◌≡◌, ℕ, ◌+◌, Option, sym, ap, ◌∙◌, subst, arith}
-use Rattle.book.specs.Books.{setup, contents}
+use Rattle.std.proofs.Common.{ℕ, ◌+◌, Option, sym, subst}
+use Rattle.book.specs.Books.{contents}
 use Rattle.spans.specs.Finding.{track}
 use Rattle.spans.proofs.Seen.{Seen, seen_more}
 use Rattle.spans.proofs.SiteDial.index_days.Goals as goal

@@ -1,6 +1,5 @@
-use Rattle.std.proofs.Common.{◌≡◌, ℕ, ◌+◌, ◌<◌, ◌≤◌, Some, None, Option, sym, ap, ◌∙◌, subst, arith}
+use Rattle.std.proofs.Common.{◌≡◌, ℕ, Option, sym, ap, ◌∙◌, subst, arith}
 use Rattle.book_rules.specs.declared.Situation.{Situation}
-use Rattle.book.specs.Books.{contents}
 use Rattle.span_rules.specs.Lasts.{later}
 use Rattle.spans.proofs.Situations.{LookedAt, looked_none, looked_more, gap_here, one_situation, several, some_last}
 use Rattle.spans.proofs.SiteDial.situation_throughout.Goals as goal
