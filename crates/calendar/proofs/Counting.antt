@@ -1,18 +1,14 @@
--- One more month, and a list that names a date. Assumes nothing.
-use Rattle.std.proofs.Common.{◌≡◌, ℕ, ◌+◌, Bool, cond, eqb, leb, List, refl, add-one}
-use Rattle.std.specs.List.{IsAnyAnswer}
+-- Twelve months counted, and a list that names a date. Assumes nothing.
+use Rattle.std.proofs.Common.{◌≡◌, ℕ, Bool, eqb, leb, List, count_by, refl, arith}
+use Rattle.std.specs.List.{IsAnyAnswer, range_with_len}
 use Rattle.std.proofs.lemmas.List.Elements.{contains_decides}
 use Rattle.std.proofs.lemmas.Bool.Decides.{same_from_decides, Decides-by_or, Decides-eqb}
 use Rattle.calendar.specs.Dates.{begun}
 use Rattle.calendar.specs.Places.{named}
 
-pub begun_none : (f : ℕ → ℕ) (q : ℕ) → begun f q 0 ≡ 0
+pub begun_counts : (f : ℕ → ℕ) (q : ℕ) → count_by (λ m. leb (f m) q) (range_with_len 1 12) ≡ begun f q 12
 unfolding begun
-begun_none f q = refl
-
-pub begun_more : (f : ℕ → ℕ) (q n : ℕ) → begun f q (n + 1) ≡ begun f q n + cond (leb (f (n + 1)) q) 1 0
-unfolding begun
-begun_more f q n = rw add-one
+begun_counts f q = omega arith
 
 pub named_is : (hs : List ℕ) (x : ℕ) (r : Bool) → IsAnyAnswer (λ y t. eqb y x ≡ t) hs r → r ≡ named hs x
 named_is hs x r h =
