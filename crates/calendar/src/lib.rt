@@ -72,12 +72,12 @@ fn length_of_month(year: u16, month: u8) -> u8
     }
 }
 
-// How many months of the year, 1 to 12, have begun by a day of it, counted from 0.
+// How many months of the year have begun by a day of it, counted from 0.
 fn months_begun(year: u16, day_of_year: u32) -> u8
     ensures value { result ≡ begun (days_before_month year) day_of_year 12 }
     ensures bound { result ≤ 12 }
 {
-    (1..13u8)
+    (1..=12)
         .filter(|month| days_before(year, *month) <= day_of_year)
         .count() as u8
 }
