@@ -2,9 +2,9 @@
 // place in the profile year. docs/calendar.md has the rules.
 #![tactic(auto)]
 
-ghost use Rattle.std.specs.Prelude.{◌≡◌, ◌+◌, ◌-◌, ◌<◌, ◌≤◌, true, false, if◌then◌else◌, Some, None, nat_le};
+ghost use Rattle.std.specs.Prelude.{◌≡◌, ◌<◌, ◌≤◌, if◌then◌else◌, Some, None, nat_le, MatchOption};
 ghost use Rattle.calendar.specs.Dates.{leap, date_of, civil_of, in_calendar, begun, new_year, year_of, day_of_year, month_of, day_of_month, month_length, days_before_month};
-ghost use Rattle.calendar.specs.Places.{named, holiday, summer_holiday, bridging, weekday, week_of, day_counted, place_of};
+ghost use Rattle.calendar.specs.Places.{holiday, summer_holiday, bridging, weekday, week_of, day_counted, place_of};
 ghost use Rattle.calendar.specs.Laws.{OneCalendar, Months, Weeks};
 
 use std::fmt;
@@ -23,10 +23,7 @@ pub struct CivilDate {
 // As 2007-04-30.
 impl fmt::Display for CivilDate {
     fn fmt<W: fmt::Write>(&self, f: &mut fmt::Formatter<W>) -> fmt::Result {
-        let year = self.year;
-        let month = self.month;
-        let day = self.day;
-        write!(f, "{year:04}-{month:02}-{day:02}")
+        write!(f, "{:04}-{:02}-{:02}", self.year, self.month, self.day)
     }
 }
 
@@ -39,7 +36,7 @@ pub struct Place {
 }
 
 // The days of a common year before each month.
-const MONTH_STARTS: [u16; 12] = [0, 31, 59, 90, 120, 151, 181, 212, 243, 273, 304, 334];
+const MONTH_STARTS: [u32; 12] = [0, 31, 59, 90, 120, 151, 181, 212, 243, 273, 304, 334];
 
 fn is_leap(year: u16) -> bool
     ensures { result ≡ leap year }
@@ -51,7 +48,7 @@ fn new_year_of(year: u16) -> u32
     requires { 2001 ≤ year }
     ensures { result ≡ new_year year }
 {
-    let years = year as u32 - 2001;
+    let years = u32::from(year) - 2001;
     365 * years + years / 4
 }
 
@@ -61,12 +58,7 @@ fn days_before(year: u16, month: u8) -> u32
     ensures value { result ≡ days_before_month year month }
     ensures bound { result ≤ 65536 }
 {
-    let common = MONTH_STARTS[(month - 1) as usize] as u32;
-    if is_leap(year) && month > 2 {
-        common + 1
-    } else {
-        common
-    }
+    MONTH_STARTS[usize::from(month - 1)] + u32::from(is_leap(year) && month > 2)
 }
 
 fn length_of_month(year: u16, month: u8) -> u8
@@ -80,153 +72,169 @@ fn length_of_month(year: u16, month: u8) -> u8
     }
 }
 
-fn is_day(civil: CivilDate) -> bool
-    ensures { result ≡ in_calendar civil }
+// How many months of the year have begun by a day of it, counted from 0.
+fn months_begun(year: u16, day_of_year: u32) -> u8
+    ensures value { result ≡ begun (days_before_month year) day_of_year 12 }
+    ensures bound { result ≤ 12 }
 {
-    civil.year >= 2001
-        && civil.year <= 2099
-        && civil.month >= 1
-        && civil.month <= 12
-        && civil.day >= 1
-        && civil.day <= length_of_month(civil.year, civil.month)
+    (1..=12)
+        .filter(|month| days_before(year, *month) <= day_of_year)
+        .count() as u8
+}
+
+impl CivilDate {
+    fn is_in_calendar(self) -> bool
+        ensures { result ≡ in_calendar self }
+    {
+        matches!(self.year, 2001..=2099)
+            && matches!(self.month, 1..=12)
+            && (1..=length_of_month(self.year, self.month)).contains(&self.day)
+    }
+}
+
+// A date that the calendar has.
+#[derive(Clone, Copy)]
+struct Date {
+    days: u32,
+    ghost bounded: { days ≤ 36158 },
+}
+
+impl Date {
+    fn of(days: u32) -> Option<Date>
+        ensures { MatchOption result (36158 < days) (λ d. (d.days ≡ days) × (days ≤ 36158)) }
+    {
+        if days > LAST_DATE {
+            return None;
+        }
+        Some(Date { days })
+    }
+
+    fn year(self) -> u16
+        ensures value { result ≡ year_of self.days }
+        ensures low { 2001 ≤ result }
+        ensures begun { new_year result ≤ self.days }
+    {
+        let in_four_years = self.days % 1461 / 365;
+        (2001 + 4 * (self.days / 1461) + in_four_years.min(3)) as u16
+    }
+
+    // 1 January of its year.
+    fn new_year(self) -> Date
+        ensures value { result.days ≡ new_year (year_of self.days) }
+        ensures begun { result.days ≤ self.days }
+    {
+        Date {
+            days: new_year_of(self.year()),
+        }
+    }
+
+    // Days since 1 January of its year.
+    fn day_of_year(self) -> u32
+        ensures { result ≡ day_of_year self.days }
+    {
+        self.days - self.new_year().days
+    }
+
+    // 1 Monday to 7 Sunday.
+    fn weekday(self) -> u8
+        ensures { result ≡ weekday self.days }
+    {
+        (1 + self.days % 7) as u8
+    }
+
+    fn month(self) -> u8
+        ensures value { result ≡ month_of self.days }
+        ensures low { 1 ≤ result }
+        ensures high { result ≤ 12 }
+    {
+        months_begun(self.year(), self.day_of_year())
+    }
+
+    fn day_of_month(self) -> u8
+        ensures { result ≡ day_of_month self.days }
+    {
+        (self.day_of_year() - days_before(self.year(), self.month()) + 1) as u8
+    }
+
+    fn civil(self) -> CivilDate
+        ensures { result ≡ civil_of self.days }
+    {
+        CivilDate {
+            year: self.year(),
+            month: self.month(),
+            day: self.day_of_month(),
+        }
+    }
+
+    fn week(self) -> u8
+        ensures { result ≡ week_of self.days }
+    {
+        let since_monday = u32::from(self.new_year().weekday()) - 1 + self.day_of_year();
+        (1 + since_monday / 7 % 52) as u8
+    }
+
+    fn is_holiday(self, holidays: &[u32]) -> bool
+        ensures { result ≡ holiday holidays.now self.days }
+    {
+        holidays.contains(&self.days)
+    }
+
+    fn is_summer_holiday(self, holidays: &[u32]) -> bool
+        ensures { result ≡ summer_holiday holidays.now self.days }
+    {
+        self.is_holiday(holidays) && (4..=9).contains(&self.month())
+    }
+
+    fn is_bridging(self, holidays: &[u32]) -> bool
+        ensures { result ≡ bridging holidays.now self.days }
+    {
+        let bridged = match self.weekday() {
+            1 => Date::of(self.days + 1),
+            5 => Date::of(self.days - 1),
+            _ => None,
+        };
+        bridged.is_some_and(|date| date.is_summer_holiday(holidays))
+    }
+
+    // The day of the week as which it counts.
+    fn counted_day(self, holidays: &[u32]) -> u8
+        ensures { result ≡ day_counted holidays.now self.days }
+    {
+        if self.is_holiday(holidays) {
+            7
+        } else if self.is_bridging(holidays) {
+            6
+        } else {
+            self.weekday()
+        }
+    }
 }
 
 // The date of a day of the calendar; none for a day that the years 2001 to 2099 do not have.
 pub fn date_on(civil: CivilDate) -> Option<u32>
     ensures { result ≡ date_of civil }
 {
-    if !is_day(civil) {
-        return None;
-    }
-    Some(new_year_of(civil.year) + days_before(civil.year, civil.month) + (civil.day as u32 - 1))
-}
-
-fn year_on(date: u32) -> u16
-    requires { date ≤ 36158 }
-    ensures value { result ≡ year_of date }
-    ensures low { 2001 ≤ result }
-    ensures begun { new_year result ≤ date }
-{
-    let in_four_years = date % 1461 / 365;
-    (2001 + 4 * (date / 1461) + in_four_years.min(3)) as u16
-}
-
-// Whether a month has begun by a day of the year, counted from 0.
-fn has_begun(year: u16, month: u8, day_of_year: u32) -> bool
-    requires { (1 ≤ month) × (month ≤ 12) }
-    ensures { result ≡ nat_le (days_before_month year month) day_of_year }
-{
-    days_before(year, month) <= day_of_year
-}
-
-// The months of the year that have begun by a day of it.
-fn months_begun(year: u16, day_of_year: u32) -> u8
-    ensures value { result ≡ begun (days_before_month year) day_of_year 12 }
-    ensures bound { result ≤ 12 }
-{
-    let mut months = 0;
-    for month in 0..12u8 {
-        if has_begun(year, month + 1, day_of_year) {
-            months += 1;
-        }
-    }
-    months
-}
-
-fn month_on(date: u32) -> u8
-    requires { date ≤ 36158 }
-    ensures value { result ≡ month_of date }
-    ensures low { 1 ≤ result }
-    ensures high { result ≤ 12 }
-{
-    let year = year_on(date);
-    months_begun(year, date - new_year_of(year))
-}
-
-fn day_in_month(date: u32) -> u8
-    requires { date ≤ 36158 }
-    ensures { result ≡ day_of_month date }
-{
-    let year = year_on(date);
-    let day_of_year = date - new_year_of(year);
-    (day_of_year - days_before(year, month_on(date)) + 1) as u8
+    let CivilDate { year, month, day } = civil;
+    civil.is_in_calendar().then(|| {
+        new_year_of(year) + days_before(year, month) + (u32::from(day) - 1)
+    })
 }
 
 // Year, month and day of a date; none past the last date.
 pub fn civil_date(date: u32) -> Option<CivilDate>
     ensures { result ≡ (if nat_le date 36158 then Some (civil_of date) else None) }
 {
-    if date > LAST_DATE {
-        return None;
-    }
-    Some(CivilDate {
-        year: year_on(date),
-        month: month_on(date),
-        day: day_in_month(date),
-    })
-}
-
-fn weekday_of(date: u32) -> u8
-    ensures { result ≡ weekday date }
-{
-    (1 + date % 7) as u8
-}
-
-fn week_on(date: u32) -> u8
-    requires { date ≤ 36158 }
-    ensures { result ≡ week_of date }
-{
-    let new_year = new_year_of(year_on(date));
-    let since_monday = weekday_of(new_year) as u32 - 1 + (date - new_year);
-    (1 + since_monday / 7 % 52) as u8
-}
-
-fn is_holiday(date: u32, holidays: &[u32]) -> bool
-    ensures { result ≡ holiday holidays.now date }
-{
-    date <= LAST_DATE && holidays.contains(&date)
-}
-
-fn is_summer_holiday(date: u32, holidays: &[u32]) -> bool
-    ensures { result ≡ summer_holiday holidays.now date }
-{
-    is_holiday(date, holidays) && month_on(date) >= 4 && month_on(date) <= 9
-}
-
-fn is_bridging(date: u32, holidays: &[u32]) -> bool
-    requires { date ≤ 36158 }
-    ensures { result ≡ bridging holidays.now date }
-{
-    match weekday_of(date) {
-        1 => is_summer_holiday(date + 1, holidays),
-        5 => is_summer_holiday(date - 1, holidays),
-        _ => false,
-    }
-}
-
-fn day_of(date: u32, holidays: &[u32]) -> u8
-    requires { date ≤ 36158 }
-    ensures { result ≡ day_counted holidays.now date }
-{
-    if is_holiday(date, holidays) {
-        return 7;
-    }
-    if is_bridging(date, holidays) {
-        return 6;
-    }
-    weekday_of(date)
+    Date::of(date).map(Date::civil)
 }
 
 // The place of a date in the profile year, under a list of public holidays; none past the last date.
 pub fn place_of(date: u32, holidays: &[u32]) -> Option<Place>
     ensures { result ≡ place_of holidays.now date }
 {
-    if date > LAST_DATE {
-        return None;
-    }
+    let date = Date::of(date)?;
     Some(Place {
-        week: week_on(date),
-        day: day_of(date, holidays),
+        week: date.week(),
+        day: date.counted_day(holidays),
     })
 }
 

@@ -2,10 +2,10 @@
 #![tactic(auto)]
 
 ghost use Rattle.std.specs.Prelude.{◌≡◌, ◌+◌, ◌-◌, ◌*◌, ◌<◌, ◌≤◌, length};
-ghost use Rattle.readings.specs.Lines.{reading_shaped, of_fields, reading_of};
+ghost use Rattle.readings.specs.Lines.{reading_shaped, reading_of};
 ghost use Rattle.sharing.specs.Shares.{total as figures_total};
 
-use calendar::{CivilDate, date_on};
+use calendar::date_on;
 use std::fmt;
 use text_fields::{day, decimal};
 
@@ -24,20 +24,16 @@ pub enum Problem {
 
 impl fmt::Display for Problem {
     fn fmt<W: fmt::Write>(&self, f: &mut fmt::Formatter<W>) -> fmt::Result {
-        match self {
-            Problem::NotAReading => write!(
-                f,
+        f.write_str(match self {
+            Problem::NotAReading => {
                 "expected a day, a space and an index of at most nine digits, as 2007-01-01 12000"
-            ),
-            Problem::NoSuchDay => write!(f, "the calendar of 2001 to 2099 has no such day"),
-            Problem::NotLater => write!(f, "the day is not after that of the reading before"),
-            Problem::TooManyDays => write!(
-                f,
-                "the day is more than 35 days after that of the reading before"
-            ),
-            Problem::IndexFalls => write!(f, "the index is below that of the reading before"),
-            Problem::IndexTooLarge => write!(f, "the index is over 999999999"),
-        }
+            }
+            Problem::NoSuchDay => "the calendar of 2001 to 2099 has no such day",
+            Problem::NotLater => "the day is not after that of the reading before",
+            Problem::TooManyDays => "the day is more than 35 days after that of the reading before",
+            Problem::IndexFalls => "the index is below that of the reading before",
+            Problem::IndexTooLarge => "the index is over 999999999",
+        })
     }
 }
 
@@ -52,19 +48,7 @@ pub struct Reading {
 fn has_day_and_space(line: &[u8]) -> bool
     ensures { result ≡ reading_shaped line.now }
 {
-    line.len() > 10 && line[10] == b' '
-}
-
-fn of_fields(civil: Option<CivilDate>, index: Option<u32>) -> Result<Reading, Problem>
-    ensures { result ≡ of_fields civil index }
-{
-    let (Some(civil), Some(index)) = (civil, index) else {
-        return Err(Problem::NotAReading);
-    };
-    match date_on(civil) {
-        Some(date) => Ok(Reading { date, index }),
-        None => Err(Problem::NoSuchDay),
-    }
+    matches!(line.get(10), Some(b' '))
 }
 
 impl Reading {
@@ -75,7 +59,10 @@ impl Reading {
         if !has_day_and_space(line) {
             return Err(Problem::NotAReading);
         }
-        of_fields(day(&line[0..10]), decimal(&line[11..]))
+        let civil = day(&line[..10]).ok_or(Problem::NotAReading)?;
+        let index = decimal(&line[11..]).ok_or(Problem::NotAReading)?;
+        let date = date_on(civil).ok_or(Problem::NoSuchDay)?;
+        Ok(Reading { date, index })
     }
 }
 
@@ -83,9 +70,5 @@ impl Reading {
 pub fn total(curve: &[u32]) -> u128
     ensures { result ≡ figures_total curve.now }
 {
-    let mut sum: u128 = 0;
-    for figure in curve {
-        sum += *figure as u128;
-    }
-    sum
+    curve.iter().map(|figure| u128::from(*figure)).sum()
 }

@@ -62,57 +62,58 @@ impl Span {
     ) -> Result<Option<Vec<u32>>, AllocError>
         ensures { IfOk result (λ o. DrawnBy (S.covers source.now) (S.weighs source.now) sub_profile self.now.first self.now.last (option_map vec_items o)) }
     {
-        let half_hours = self.half_hours() as usize;
-        if source.covered() != half_hours || sub_profile > 7 {
+        if source.covered() != self.half_hours() as usize || sub_profile > 7 {
             return Ok(None);
         }
-        let all = total_weight(source, sub_profile, half_hours);
-        let Some(sharing) = Sharing::over(self.energy(), all) else {
+        let weights = Weights {
+            source,
+            sub_profile,
+        };
+        let Some(sharing) = Sharing::over(self.energy(), weights.total()) else {
             return Ok(None);
         };
-        let curve = figures(heap, source, sub_profile, half_hours, sharing)?;
-        Ok(Some(curve))
+        weights.figures(heap, sharing).map(Some)
     }
 }
 
-// The weights of a sub-profile over the first half-hours of a source, added.
-fn total_weight<S: ProfileSource>(source: &S, sub_profile: u8, half_hours: usize) -> u64
-    requires sub_profile { sub_profile ≤ 7 }
-    requires half_hours { half_hours ≤ S.covers source.now }
-    requires short { half_hours ≤ 1680 }
-    ensures value { result ≡ before (S.weighs source.now sub_profile) half_hours }
-    ensures bound { result ≤ 1680000000 }
-{
-    let mut sum: u64 = 0;
-    for t in 0..half_hours {
-        let Some(weight) = source.weight(sub_profile, t) else {
-            return unreachable();
-        };
-        sum += weight as u64;
-    }
-    sum
-}
-
-fn figures<S: ProfileSource>(
-    heap: Global,
-    source: &S,
+// The weights of a sub-profile over the half-hours that a source covers.
+#[derive(Drop)]
+struct Weights<'a, S> {
+    source: &'a S,
     sub_profile: u8,
-    half_hours: usize,
-    sharing: Sharing,
-) -> Result<Vec<u32>, AllocError>
-    requires sub_profile { sub_profile ≤ 7 }
-    requires half_hours { half_hours ≤ S.covers source.now }
-    requires all { sharing.all ≡ before (S.weighs source.now sub_profile) half_hours }
-    requires behind { sharing.behind ≡ 0 }
-    ensures { IfOk result (λ v. Curve sharing.energy (S.weighs source.now sub_profile) half_hours v.items) }
-{
-    let mut sharing = sharing;
-    let mut curve = Vec::new(heap);
-    for t in 0..half_hours {
-        let Some(weight) = source.weight(sub_profile, t) else {
-            return unreachable();
-        };
-        curve.push(sharing.next_figure(weight))?;
+    ghost known: { sub_profile ≤ 7 },
+}
+
+impl<'a, S: ProfileSource> Weights<'a, S> {
+    // That of a half-hour which is covered.
+    fn at(&self, half_hour: usize) -> u32
+        requires { half_hour < S.covers self.now.source.now }
+        ensures value { result ≡ S.weighs self.now.source.now self.now.sub_profile half_hour }
+        ensures light { result ≤ 1000000 }
+    {
+        self.source.weight(self.sub_profile, half_hour).unwrap()
     }
-    Ok(curve)
+
+    // All of them, added.
+    fn total(&self) -> u64
+        ensures value { result ≡ before (S.weighs self.now.source.now self.now.sub_profile) (S.covers self.now.source.now) }
+        ensures bound { result ≤ 1680000000 }
+    {
+        (0..self.source.covered())
+            .map(|t| u64::from(self.at(t)))
+            .sum()
+    }
+
+    // What each half-hour gets of the energy of a sharing that begins.
+    fn figures(&self, heap: Global, mut sharing: Sharing) -> Result<Vec<u32>, AllocError>
+        requires all { sharing.all ≡ before (S.weighs self.now.source.now self.now.sub_profile) (S.covers self.now.source.now) }
+        requires behind { sharing.behind ≡ 0 }
+        ensures { IfOk result (λ v. Curve sharing.energy (S.weighs self.now.source.now self.now.sub_profile) (S.covers self.now.source.now) v.items) }
+    {
+        let mut curve = Vec::new(heap);
+        for t in 0..self.source.covered() {
+            curve.push(sharing.next_figure(self.at(t)))?;
+        }
+        Ok(curve)
+    }
 }

@@ -1,6 +1,6 @@
 use Rattle.std.proofs.Common.{rules}
 use Rattle.calendar.specs.Places.{day_counted}
-use Rattle.calendar.proofs.day_of.Goals as goal
+use Rattle.calendar.proofs.Date.counted_day.Goals as goal
 
 pub returns-then-is_holiday : goal.returns-then-is_holiday
 unfolding day_counted
@@ -10,6 +10,6 @@ pub returns-then-is_bridging : goal.returns-then-is_bridging
 unfolding day_counted
 returns-then-is_bridging c = search rules
 
-pub returns : goal.returns
+pub returns-else-is_bridging : goal.returns-else-is_bridging
 unfolding day_counted
-returns c = search rules
+returns-else-is_bridging c = search rules

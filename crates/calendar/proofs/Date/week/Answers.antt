@@ -1,6 +1,6 @@
 use Rattle.std.proofs.Common.{rules}
 use Rattle.calendar.specs.Places.{week_of}
-use Rattle.calendar.proofs.week_on.Goals as goal
+use Rattle.calendar.proofs.Date.week.Goals as goal
 
 pub returns : goal.returns
 unfolding week_of
