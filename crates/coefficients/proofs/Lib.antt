@@ -1,1 +1,1 @@
-pub mod Horizons
+pub mod FromFn

@@ -1,5 +1,5 @@
 -- Weights by coefficients: of the week (CS), of the day (CJ) and of the half-hour of the day (CH), in thousandths.
-use Rattle.std.specs.Prelude.{ℕ, ◌+◌, ◌-◌, ◌*◌, ◌/◌, ◌%◌, min, Bool, cond, ◌&&◌, List, length, nat_le, slice_index}
+use Rattle.std.specs.Prelude.{ℕ, ◌+◌, ◌-◌, ◌*◌, ◌/◌, ◌%◌, ◌≤◌, min, Bool, cond, ◌&&◌, List, length, nat_le, slice_index, slice_index_or}
 use Rattle.calendar.specs.declared.Place.{Place}
 use Rattle.calendar.specs.Places.{place_at}
 
@@ -13,6 +13,17 @@ abbrev pub coefficient_weight : List ℕ → Place → ℕ → ℕ → ℕ
 coefficient_weight list place sub h =
     product (slice_index list (395 * sub + (place.week - 1))) (slice_index list (395 * sub + 52 + (place.day - 1)))
     (slice_index list (395 * sub + 59 + 48 * (place.day - 1) + h))
+
+-- Day k of a list of places; past the list there is no such place.
+abbrev pub day_place : List Place → ℕ → Place
+day_place places k = slice_index_or places k (record { week = 0; day = 0 })
+
+-- A place lies in the profile year: weeks 1 to 52, days 1 to 7.
+pub record InYear (place : Place) : Type 0 where
+  pub week_low : 1 ≤ place.week
+  pub week_high : place.week ≤ 52
+  pub day_low : 1 ≤ place.day
+  pub day_high : place.day ≤ 7
 
 -- Half-hour t from the first date on takes its weight at the place of its day.
 abbrev pub calendar_weight : List ℕ → List ℕ → ℕ → ℕ → ℕ → ℕ

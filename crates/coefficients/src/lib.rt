@@ -1,7 +1,8 @@
 // The coefficient source: weights by week, day and half-hour of the day. docs/sources.md has the rule.
 #![tactic(auto)]
 
-ghost use Rattle.std.specs.Prelude.{◌≡◌, ℕ, ◌+◌, ◌*◌, ◌/◌, ◌%◌, ◌<◌, ◌≤◌, length, slice_index_or};
+ghost use Rattle.std.specs.Prelude.{ℕ, ◌<◌, ◌≤◌};
+ghost use Rattle.coefficients.specs.Weights.{InYear, day_place};
 
 use calendar::Place;
 
@@ -15,8 +16,5 @@ pub struct Coefficients {
     places: [Place; 35],
     days: usize,
     ghost short: { days ≤ 35 },
-    ghost week_low: { (k : ℕ) → k < days → 1 ≤ (slice_index_or places k (record { week = 0; day = 0 })).week },
-    ghost week_high: { (k : ℕ) → k < days → (slice_index_or places k (record { week = 0; day = 0 })).week ≤ 52 },
-    ghost day_low: { (k : ℕ) → k < days → 1 ≤ (slice_index_or places k (record { week = 0; day = 0 })).day },
-    ghost day_high: { (k : ℕ) → k < days → (slice_index_or places k (record { week = 0; day = 0 })).day ≤ 7 },
+    ghost placed: { (k : ℕ) → k < days → InYear (day_place places k) },
 }

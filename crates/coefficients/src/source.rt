@@ -1,52 +1,40 @@
 // Making a coefficient source, and its weights.
 ghost use Rattle.std.specs.Prelude.{◌≡◌, ℕ, ◌+◌, ◌*◌, ◌/◌, ◌%◌, ◌<◌, ◌≤◌, true, length, slice_index, slice_index_or};
+ghost use Rattle.std.specs.Bool.{OnTrue};
 ghost use Rattle.calendar.specs.Places.{place_at};
-ghost use Rattle.coefficients.specs.Weights.{product, coefficient_weight, calendar_weight, good_horizon, days_covered};
+ghost use Rattle.coefficients.specs.Weights.{day_place, product, coefficient_weight, calendar_weight, good_horizon, days_covered};
 
 use super::Coefficients;
 use calendar::{Place, place_of};
-use sources::ProfileSource;
+use sources::{ProfileSource, nearest_weight};
+use std::array;
 
 // How many coefficients the source reads: 395 for each of eight sub-profiles.
 const COEFFICIENTS: usize = 3_160;
+// The most days that the source covers.
+const MOST_DAYS: usize = 35;
+// Where a profile year begins.
+const NEW_YEAR: Place = Place { week: 1, day: 1 };
 
 fn weight_of(cs: u16, cj: u16, ch: u16) -> u32
     ensures { result ≡ product cs cj ch }
 {
-    let rounded = (cs as u64 * cj as u64 * ch as u64 + 50_000) / 100_000;
-    rounded.min(1_000_000) as u32
+    nearest_weight(u64::from(cs) * u64::from(cj) * u64::from(ch))
 }
 
 fn is_good_horizon(first: u32, days: usize) -> bool
-    ensures { result ≡ good_horizon first days }
+    ensures value { result ≡ good_horizon first days }
+    ensures facts { OnTrue result ((days ≤ 35) × (first + days ≤ 36159)) }
 {
-    days >= 1 && days <= 35 && first as usize + days <= 36_159
+    (1..=MOST_DAYS).contains(&days) && first as usize + days <= 36_159
 }
 
-fn copied(list: &[u16]) -> [u16; 3160]
-    requires { 3160 ≤ length list.now }
-    ensures { (k : ℕ) → k < 3160 → slice_index result k ≡ slice_index list.now k }
+// The place of each day from the first date on; past the last date any place.
+fn places_from(first: u32, holidays: &[u32]) -> [Place; MOST_DAYS]
+    requires { first ≤ 36159 }
+    ensures { (k : ℕ) → k < 35 → first + k ≤ 36158 → day_place result k ≡ place_at holidays.now (first + k) }
 {
-    let mut own = [0u16; 3160];
-    for i in 0..3160 {
-        own[i] = list[i];
-    }
-    own
-}
-
-// The place of each of the days from the first date on.
-fn places_from(first: u32, days: usize, holidays: &[u32]) -> [Place; 35]
-    requires { good_horizon first days ≡ true }
-    ensures { (k : ℕ) → k < days → slice_index_or result k (record { week = 0; day = 0 }) ≡ place_at holidays.now (first + k) }
-{
-    let mut places = [Place { week: 1, day: 1 }; 35];
-    for k in 0..days {
-        let Some(place) = place_of(first + k as u32, holidays) else {
-            return unreachable();
-        };
-        places[k] = place;
-    }
-    places
+    array::from_fn(|k| place_of(first + k as u32, holidays).unwrap_or(NEW_YEAR))
 }
 
 impl Coefficients {
@@ -54,19 +42,21 @@ impl Coefficients {
     // horizon that is bad, it covers nothing; further places of a longer list are not read.
     pub fn over(list: &[u16], first: u32, days: usize, holidays: &[u32]) -> Coefficients
         ensures covers { result.days ≡ days_covered list.now first days }
-        ensures weighs { (sub t : ℕ) → sub ≤ 7 → t < 48 * result.days → coefficient_weight result.list (slice_index_or result.places (t / 48) (record { week = 0; day = 0 })) sub (t % 48) ≡ calendar_weight list.now holidays.now first sub t }
+        ensures weighs { (sub t : ℕ) → sub ≤ 7 → t < 48 * result.days → coefficient_weight result.list (day_place result.places (t / 48)) sub (t % 48) ≡ calendar_weight list.now holidays.now first sub t }
     {
-        if list.len() < COEFFICIENTS || !is_good_horizon(first, days) {
+        if let Some(own) = list.first_chunk::<COEFFICIENTS>()
+            && is_good_horizon(first, days)
+        {
             return Coefficients {
-                list: [0; 3160],
-                places: [Place { week: 1, day: 1 }; 35],
-                days: 0,
+                list: *own,
+                places: places_from(first, holidays),
+                days,
             };
         }
         Coefficients {
-            list: copied(list),
-            places: places_from(first, days, holidays),
-            days,
+            list: [0; COEFFICIENTS],
+            places: [NEW_YEAR; MOST_DAYS],
+            days: 0,
         }
     }
 }
@@ -74,7 +64,7 @@ impl Coefficients {
 impl ProfileSource for Coefficients {
     ghost covers = { λ s. 48 * s.days };
 
-    ghost weighs = { λ s sub t. coefficient_weight s.list (slice_index_or s.places (t / 48) (record { week = 0; day = 0 })) sub (t % 48) };
+    ghost weighs = { λ s sub t. coefficient_weight s.list (day_place s.places (t / 48)) sub (t % 48) };
 
     fn covered(&self) -> usize {
         48 * self.days
@@ -85,10 +75,10 @@ impl ProfileSource for Coefficients {
             return None;
         }
         let place = self.places[half_hour / 48];
-        let base = 395 * sub_profile as usize;
-        let cs = self.list[base + (place.week as usize - 1)];
-        let cj = self.list[base + 52 + (place.day as usize - 1)];
-        let ch = self.list[base + 59 + 48 * (place.day as usize - 1) + half_hour % 48];
+        let base = 395 * usize::from(sub_profile);
+        let cs = self.list[base + (usize::from(place.week) - 1)];
+        let cj = self.list[base + 52 + (usize::from(place.day) - 1)];
+        let ch = self.list[base + 59 + 48 * (usize::from(place.day) - 1) + half_hour % 48];
         Some(weight_of(cs, cj, ch))
     }
 }

@@ -1,6 +1,6 @@
 -- Loading temperatures: what is refused, and what stands afterwards.
 use Rattle.std.specs.Prelude.{◌≡◌, ℕ, ◌<◌, ◌≤◌, Bool, cond, ◌&&◌, List, length, take, ℤ, pos, negsuc, Some, None, Ok, Err, Option, Result, ◌==◌, nat_le, nat_lt, slice_index, slice_index_or}
-use Rattle.lemmas.specs.Every.{every}
+use Rattle.std.specs.List.{list_all}
 use Rattle.refusals.specs.declared.Refusal.{Refusal}
 use Rattle.refusals.specs.declared.Refusal.TheVariants.{BufferTooShort, CoverageDiffers, ValueOutOfBounds}
 use Rattle.temperature.specs.declared.Temperatures.{Temperatures}
@@ -16,7 +16,7 @@ gradual g = nat_le g 2000
 
 -- Eight gradients are read, and no more: one for each sub-profile.
 abbrev pub bounded : ℤ → List ℕ → List ℤ → List ℤ → Bool
-bounded threshold gradients normal measured = temperate threshold && every gradual (take 8 gradients) && every temperate normal && every temperate measured
+bounded threshold gradients normal measured = temperate threshold && list_all gradual (take 8 gradients) && list_all temperate normal && list_all temperate measured
 
 abbrev pub matching : List ℤ → List ℤ → Bool
 matching normal measured = length normal == length measured && nat_le (length normal) 1680

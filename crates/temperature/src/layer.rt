@@ -1,28 +1,26 @@
 // The weights of the temperature layer.
-ghost use Rattle.std.specs.Prelude.{◌≡◌, ℕ, ◌<◌, ◌≤◌, length, replicate, pos, negsuc, ◌*ℤ◌, ◌≤ℤ◌, Some, None};
+ghost use Rattle.std.specs.Prelude.{◌≡◌, ℕ, ◌<◌, ◌≤◌, length, replicate, pos, ◌*ℤ◌, ◌≤ℤ◌, unsigned_abs, Some, None};
 ghost use Rattle.temperature.specs.Adjusting.{colder, factor, scaled, adjusted};
 ghost use Rattle.temperature.specs.Loading.{refusal, answered, After};
 
-use crate::loading::refusal_of;
+use crate::loading::Load;
 use crate::{TemperatureLayer, Temperatures};
 use refusals::Refusal;
-use sources::ProfileSource;
+use sources::{ProfileSource, nearest_weight};
 
 fn colder_by(threshold: i16, normal: i16, measured: i16) -> i32
     ensures value { result ≡ colder threshold normal measured }
-    ensures bound { (result ≤ℤ pos 65535) × (negsuc 65534 ≤ℤ result) }
+    ensures bound { unsigned_abs result ≤ 65535 }
 {
-    let normal = threshold.min(normal) as i32;
-    let measured = threshold.min(measured) as i32;
-    normal - measured
+    i32::from(threshold.min(normal)) - i32::from(threshold.min(measured))
 }
 
 fn times(gradient: u16, d: i32) -> i64
-    requires { (d ≤ℤ pos 65535) × (negsuc 65534 ≤ℤ d) }
+    requires { unsigned_abs d ≤ 65535 }
     ensures value { result ≡ pos gradient *ℤ d }
-    ensures bound { (result ≤ℤ pos 4294836225) × (negsuc 4294836224 ≤ℤ result) }
+    ensures bound { unsigned_abs result ≤ 4294836225 }
 {
-    gradient as i64 * d as i64
+    i64::from(gradient) * i64::from(d)
 }
 
 fn factor_of(gradient: u16, threshold: i16, normal: i16, measured: i16) -> i64
@@ -37,11 +35,10 @@ fn scaled_by(weight: u32, factor: i64) -> u32
     requires { (weight ≤ 1000000) × (factor ≤ℤ pos 4294936225) }
     ensures { result ≡ scaled weight factor }
 {
-    if factor < 0 {
+    let Ok(factor) = u64::try_from(factor) else {
         return 0;
-    }
-    let rounded = (weight as u64 * factor as u64 + 50_000) / 100_000;
-    rounded.min(1_000_000) as u32
+    };
+    nearest_weight(u64::from(weight) * factor)
 }
 
 impl Temperatures {
@@ -53,7 +50,7 @@ impl Temperatures {
         ensures value { result ≡ adjusted self.now (λ _ _. weight) sub_profile half_hour }
         ensures bound { result ≤ 1000000 }
     {
-        let gradient = self.gradients[sub_profile as usize];
+        let gradient = self.gradients[usize::from(sub_profile)];
         let factor = factor_of(
             gradient,
             self.threshold,
@@ -71,10 +68,10 @@ impl<S> TemperatureLayer<S> {
         ensures held { result.held ≡ record { normal = replicate 1680 (pos 0); measured = replicate 1680 (pos 0); threshold = pos 0; gradients = replicate 8 0 } }
     {
         let held = Temperatures {
-            normal: [0i16; 1680],
-            measured: [0i16; 1680],
+            normal: [0; 1680],
+            measured: [0; 1680],
             threshold: 0,
-            gradients: [0u16; 8],
+            gradients: [0; 8],
         };
         TemperatureLayer { below, held }
     }
@@ -93,10 +90,8 @@ impl<S> TemperatureLayer<S> {
         ensures held { After (refusal threshold gradients.now normal.now measured.now) threshold gradients.now normal.now measured.now self.old.held self.new.held }
         ensures below { self.new.below ≡ self.old.below }
     {
-        if let Some(refusal) = refusal_of(threshold, gradients, normal, measured) {
-            return Err(refusal);
-        }
-        self.held.store(threshold, gradients, normal, measured);
+        let load = Load::of(threshold, gradients, normal, measured)?;
+        self.held.store(load);
         Ok(())
     }
 }
@@ -111,9 +106,7 @@ impl<S: ProfileSource> ProfileSource for TemperatureLayer<S> {
     }
 
     fn weight(&self, sub_profile: u8, half_hour: usize) -> Option<u32> {
-        let Some(weight) = self.below.weight(sub_profile, half_hour) else {
-            return None;
-        };
+        let weight = self.below.weight(sub_profile, half_hour)?;
         Some(self.held.adjust(weight, sub_profile, half_hour))
     }
 }

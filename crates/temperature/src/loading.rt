@@ -1,103 +1,83 @@
-// Looking at what is to be loaded, and copying it.
-ghost use Rattle.std.specs.Prelude.{◌≡◌, ℕ, ◌≤◌, length, IfNone};
-ghost use Rattle.lemmas.specs.Every.{every};
-ghost use Rattle.temperature.specs.Loading.{temperate, gradual, matching, bounded, refusal, Fronted, Loaded};
+// Looking at what is to be loaded, and storing it.
+ghost use Rattle.std.specs.Prelude.{◌≡◌, ℕ, ◌≤◌, length, take, None, Some, MatchResult};
+ghost use Rattle.std.specs.List.{list_all};
+ghost use Rattle.temperature.specs.Loading.{temperate, gradual, bounded, refusal, Loaded};
 
 use crate::Temperatures;
 use refusals::Refusal;
 
+// What is to be loaded, of lengths that fit.
+#[derive(Clone, Copy)]
+pub(crate) struct Load<'a> {
+    threshold: i16,
+    gradients: [u16; 8],
+    normal: &'a [i16],
+    measured: &'a [i16],
+    ghost normal_short: { length normal.now ≤ 1680 },
+    ghost measured_short: { length measured.now ≤ 1680 },
+}
+
 fn is_temperate(x: i16) -> bool
     ensures { result ≡ temperate x }
 {
-    x >= -500 && x <= 500
+    (-500..=500).contains(&x)
 }
 
-fn all_temperate(list: &[i16]) -> bool
-    ensures { result ≡ every temperate list.now }
+fn are_temperate(list: &[i16]) -> bool
+    ensures { result ≡ list_all temperate list.now }
 {
-    for x in list {
-        if !is_temperate(*x) {
-            return false;
+    list.iter().all(|x| is_temperate(*x))
+}
+
+fn are_gradual(list: &[u16]) -> bool
+    ensures { result ≡ list_all gradual list.now }
+{
+    list.iter().all(|gradient| *gradient <= 2_000)
+}
+
+impl<'a> Load<'a> {
+    // What is given, or why it cannot be loaded.
+    pub(crate) fn of(
+        threshold: i16,
+        gradients: &[u16],
+        normal: &'a [i16],
+        measured: &'a [i16],
+    ) -> Result<Load<'a>, Refusal>
+        ensures { MatchResult result (λ l. (refusal threshold gradients.now normal.now measured.now ≡ None) × (l.threshold ≡ threshold) × (l.gradients ≡ take 8 gradients.now) × (l.normal.now ≡ normal.now) × (l.measured.now ≡ measured.now)) (λ e. refusal threshold gradients.now normal.now measured.now ≡ Some e) }
+    {
+        let gradients = *gradients.first_chunk::<8>().ok_or(Refusal::BufferTooShort)?;
+        if normal.len() != measured.len() || normal.len() > 1_680 {
+            return Err(Refusal::CoverageDiffers);
         }
-    }
-    true
-}
-
-fn all_gradual(list: &[u16]) -> bool
-    ensures { result ≡ every gradual list.now }
-{
-    for gradient in list {
-        if *gradient > 2_000 {
-            return false;
+        let load = Load {
+            threshold,
+            gradients,
+            normal,
+            measured,
+        };
+        if !load.is_bounded() {
+            return Err(Refusal::ValueOutOfBounds);
         }
+        Ok(load)
     }
-    true
-}
 
-fn are_bounded(threshold: i16, gradients: &[u16], normal: &[i16], measured: &[i16]) -> bool
-    requires { 8 ≤ length gradients.now }
-    ensures { result ≡ bounded threshold gradients.now normal.now measured.now }
-{
-    is_temperate(threshold)
-        && all_gradual(&gradients[0..8])
-        && all_temperate(normal)
-        && all_temperate(measured)
-}
-
-fn are_matching(normal: &[i16], measured: &[i16]) -> bool
-    ensures { result ≡ matching normal.now measured.now }
-{
-    normal.len() == measured.len() && normal.len() <= 1_680
-}
-
-// Why the load is refused, if it is.
-pub(crate) fn refusal_of(
-    threshold: i16,
-    gradients: &[u16],
-    normal: &[i16],
-    measured: &[i16],
-) -> Option<Refusal>
-    ensures value { result ≡ refusal threshold gradients.now normal.now measured.now }
-    ensures room { IfNone result ((8 ≤ length gradients.now) × (length normal.now ≤ 1680) × (length measured.now ≤ 1680)) }
-{
-    if gradients.len() < 8 {
-        return Some(Refusal::BufferTooShort);
-    }
-    if !are_matching(normal, measured) {
-        return Some(Refusal::CoverageDiffers);
-    }
-    if !are_bounded(threshold, gradients, normal, measured) {
-        return Some(Refusal::ValueOutOfBounds);
-    }
-    None
-}
-
-fn copy_into<T: Copy>(to: &mut [T], from: &[T])
-    requires { length from.now ≤ length to.old }
-    ensures { Fronted from.now to.old to.new }
-{
-    for i in 0..from.len() {
-        to[i] = from[i];
+    fn is_bounded(&self) -> bool
+        ensures { result ≡ bounded self.now.threshold self.now.gradients self.now.normal.now self.now.measured.now }
+    {
+        is_temperate(self.threshold)
+            && are_gradual(&self.gradients)
+            && are_temperate(self.normal)
+            && are_temperate(self.measured)
     }
 }
 
 impl Temperatures {
-    // Stores what has been looked at.
-    pub(crate) fn store(
-        &mut self,
-        threshold: i16,
-        gradients: &[u16],
-        normal: &[i16],
-        measured: &[i16],
-    )
-        requires gradients { 8 ≤ length gradients.now }
-        requires normal { length normal.now ≤ 1680 }
-        requires measured { length measured.now ≤ 1680 }
-        ensures { Loaded threshold gradients.now normal.now measured.now self.old self.new }
+    pub(crate) fn store(&mut self, load: Load<'_>)
+        ensures { Loaded load.entry.threshold load.entry.gradients load.entry.normal.now load.entry.measured.now self.old self.new }
     {
-        self.threshold = threshold;
-        copy_into(&mut self.gradients, &gradients[0..8]);
-        copy_into(&mut self.normal, normal);
-        copy_into(&mut self.measured, measured);
+        self.threshold = load.threshold;
+        self.gradients = load.gradients;
+        self.normal[..load.normal.len()].copy_from_slice(load.normal);
+        self.measured[..load.measured.len()].copy_from_slice(load.measured);
     }
 }

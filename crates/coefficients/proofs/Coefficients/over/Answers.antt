@@ -1,39 +1,56 @@
-use Rattle.std.proofs.Common.{◌≡◌, ℕ, ◌+◌, ◌-◌, ◌*◌, ◌/◌, ◌%◌, ◌<◌, ◌≤◌, List, length, get_or, sym, ap, ◌∙◌, subst, arith}
-use Rattle.std.proofs.lemmas.Bool.{cond-true, and_from, le-leb}
+use Rattle.std.proofs.Common.{◌≡◌, ℕ, ◌+◌, ◌-◌, ◌*◌, ◌/◌, ◌%◌, ◌<◌, ◌≤◌, false, List, take, sym, ap, ◌∙◌, subst, arith, rules}
+use Rattle.std.proofs.lemmas.List.{get_or-take}
+use Rattle.std.proofs.lemmas.Grind.{common_steps}
+use Rattle.std.proofs.Math.Bool.{and-false}
 use Rattle.calendar.specs.declared.Place.{Place}
 use Rattle.calendar.specs.Places.{place_at}
 use Rattle.calendar.proofs.Calendar.{week_bound, day_bound}
-use Rattle.coefficients.specs.Weights.{coefficient_weight}
-use Rattle.coefficients.proofs.Horizons.{horizon}
+use Rattle.coefficients.specs.Weights.{InYear, good_horizon, coefficient_weight}
 use Rattle.coefficients.proofs.Coefficients.over.Goals as goal
+use Rattle.coefficients.proofs.Coefficients.over.Goals.{in_default-via-in-None-1, in_default-via-in-Some+else-is_good_horizon}
 
--- lists that agree on the first 3,160 places weigh the same at every place of the profile year
-same_weight : (xs ys : List ℕ) (place : Place) (sub h : ℕ) → ((k : ℕ) → k < 3160 → get_or xs k 0 ≡ get_or ys k 0) → 1 ≤ place.week → place.week ≤ 52 → 1 ≤ place.day → place.day ≤ 7 → sub ≤ 7 → h < 48 → coefficient_weight xs place sub h ≡ coefficient_weight ys place sub h
-same_weight xs ys place sub h e a b c d s t =
-    let week = e (395 * sub + (place.week - 1)) (omega arith) in
-    let day = e (395 * sub + 52 + (place.day - 1)) (omega arith) in
-    let half = e (395 * sub + 59 + 48 * (place.day - 1) + h) (omega arith) in
+-- each date's place lies in the profile year
+date_in_year : (hs : List ℕ) (x : ℕ) → InYear (place_at hs x)
+date_in_year hs x = record {
+  week_low = (week_bound x).0;
+  week_high = (week_bound x).1;
+  day_low = (day_bound hs x).0;
+  day_high = (day_bound hs x).1;
+}
+
+-- the first 3,160 coefficients weigh as the whole list does
+same_weight : (xs : List ℕ) (place : Place) (sub h : ℕ) → InYear place → sub ≤ 7 → h < 48 → coefficient_weight (take 3160 xs) place sub h ≡ coefficient_weight xs place sub h
+same_weight xs place sub h year s t =
+    let week = get_or-take 3160 xs (395 * sub + (place.week - 1)) 0 (omega arith) in
+    let day = get_or-take 3160 xs (395 * sub + 52 + (place.day - 1)) 0 (omega arith) in
+    let half = get_or-take 3160 xs (395 * sub + 59 + 48 * (place.day - 1) + h) 0 (omega arith) in
     cc
 
-pub invariant_of-result-2 : goal.invariant_of-result-2
-invariant_of-result-2 c =
-    let hs = c.args.holidays.now in let first = c.args.first in
-    let at = c.places_from.ensures in
+pub places_from-requires : goal.places_from-requires
+places_from-requires c = search rules
+
+pub invariant_of-result : goal.invariant_of-result
+invariant_of-result c =
+    let horizon = c.if-is_good_horizon.ensures.facts in
     record {
-      short = (horizon first c.args.days (sym c.if-not-is_good_horizon.ensures)).few;
-      week_low = λ k h. subst (λ (p : Place). 1 ≤ p.week) (sym (at k h)) (week_bound (first + k)).0;
-      week_high = λ k h. subst (λ (p : Place). p.week ≤ 52) (sym (at k h)) (week_bound (first + k)).1;
-      day_low = λ k h. subst (λ (p : Place). 1 ≤ p.day) (sym (at k h)) (day_bound hs (first + k)).0;
-      day_high = λ k h. subst (λ (p : Place). p.day ≤ 7) (sym (at k h)) (day_bound hs (first + k)).1;
+      short = horizon.0;
+      placed = λ k h. subst InYear (sym (c.places_from.ensures k (omega arith) (omega arith))) (date_in_year c.args.holidays.now (c.args.first + k));
     }
 
-pub returns : goal.returns
-returns c =
-    let list = c.args.list.now in let hs = c.args.holidays.now in let first = c.args.first in
-    record {
-      covers = sym (cond-true _ _ _ (and_from _ _ (le-leb 3160 (length list) (omega arith)) (sym c.if-not-is_good_horizon.ensures)));
-      weighs = λ sub t low under.
-          let x = first + t / 48 in
-          ap (λ (p : Place). coefficient_weight c.copied.result p sub (t % 48)) (c.places_from.ensures (t / 48) (omega arith))
-          ∙ same_weight c.copied.result list (place_at hs x) sub (t % 48) c.copied.ensures (week_bound x).0 (week_bound x).1 (day_bound hs x).0 (day_bound hs x).1 low (omega arith);
-    }
+pub returns-clause-weighs : goal.returns-clause-weighs
+returns-clause-weighs c = λ sub t low under.
+    let list = c.args.list.now in let hs = c.args.holidays.now in let x = c.args.first + t / 48 in
+    let horizon = c.if-is_good_horizon.ensures.facts in
+    let placed = c.places_from.ensures (t / 48) (omega arith) (omega arith) in
+    let year = date_in_year hs x in
+    ap (λ (p : Place). coefficient_weight c.in-Some.own.now p sub (t % 48)) placed
+    ∙ (ap (λ (l : List ℕ). coefficient_weight l (place_at hs x) sub (t % 48)) c.in-Some.ensures.cases.same ∙ same_weight list (place_at hs x) sub (t % 48) year low (omega arith))
+
+pub returns-2-clause-covers : goal.returns-2-clause-covers
+returns-2-clause-covers c =
+    elim c.in_default.branch [
+      | in_default-via-in-None-1 w ↦ grind (arith, common_steps)
+      | in_default-via-in-Some+else-is_good_horizon w ↦
+          let bad : good_horizon c.args.first c.args.days ≡ false = sym w.if-is_good_horizon.ensures.value in
+          simp (bad, and-false)
+    ]

@@ -1,15 +1,14 @@
-use Rattle.std.proofs.Common.{◌+◌, leb, ◌∙◌, arith}
-use Rattle.lemmas.proofs.Options.{some_when}
-use Rattle.lemmas.proofs.Writes.{set_more}
-use Rattle.std.proofs.lemmas.List.{length-set}
-use Rattle.calendar.specs.Places.{place_at}
-use Rattle.coefficients.proofs.Horizons.{horizon}
+use Rattle.std.proofs.Common.{◌+◌, ℕ, arith, rules}
+use Rattle.std.specs.Prelude.{unwrap_or}
+use Rattle.std.proofs.lemmas.Bool.{le-leb}
+use Rattle.calendar.specs.declared.Place.{Place}
+use Rattle.calendar.specs.Places.{place_of}
+use Rattle.coefficients.proofs.FromFn.{each_from}
 use Rattle.coefficients.proofs.source.places_from.Goals as goal
 
-pub loop-k-preserved : goal.loop-k-preserved
-loop-k-preserved c =
-    let hs = c.args.holidays.now in let k = c.loop-k.k in let x = c.args.first + k in
-    let here = (some_when (leb x 36158) (place_at hs x) c.in-Some.place c.in-Some.ensures).1 in
-    let long = c.loop-k.invariant.0 in
-    let few = (horizon c.args.first c.args.days c.requires).few in
-    (length-set c.loop-k.places k c.in-Some.place ∙ long, set_more (λ i. place_at hs (c.args.first + i)) c.loop-k.places _ c.in-Some.place k (omega arith) here c.loop-k.invariant.1)
+pub returns : goal.returns
+returns c = λ k h inside.
+    let v : ℕ → Place = λ i. unwrap_or (place_of c.args.holidays.now (c.args.first + i)) (record { week = 1; day = 1 }) in
+    let at = each_from _ _ v (λ i y q called. search rules) c.from_fn.result (record { week = 0; day = 0 }) 0 35 k c.from_fn.ensures.items.each (omega arith) (omega arith) in
+    let dated = le-leb (c.args.first + k) 36158 inside in
+    rw dated at at

@@ -2,5 +2,5 @@ use Rattle.std.proofs.Common.{arith}
 use Rattle.std.proofs.lemmas.Int.{ints, to_z-of_z}
 use Rattle.temperature.proofs.layer.factor_of.Goals as goal
 
-pub returns : goal.returns
-returns c = record { value = grind (arith, ints, to_z-of_z); bound = grind (arith, ints, to_z-of_z) }
+pub returns-clause-value : goal.returns-clause-value
+returns-clause-value c = grind (arith, ints, to_z-of_z)
