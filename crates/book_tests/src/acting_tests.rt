@@ -25,10 +25,7 @@ fn new_book(heap: Global) -> Result<Book, Fail> {
         situation_places: 3,
         index_places: 2,
     };
-    match Book::new(heap, set_up) {
-        Ok(book) => Ok(book),
-        Err(_) => Err(Fail::new("no book")),
-    }
+    Book::new(heap, set_up).map_err(|_| Fail::new("no book"))
 }
 
 fn made(rt: &impl Abort, book: &mut Book, calls: &[Call]) {

@@ -76,10 +76,7 @@ fn prepared(rt: &impl Abort, heap: Global) -> Result<Book, Fail> {
 }
 
 fn number(answer: Result<(), refusals::Refusal>) -> u8 {
-    match answer {
-        Ok(()) => 0,
-        Err(refusal) => refusal.number(),
-    }
+    answer.err().map_or(0, |refusal| refusal.number())
 }
 
 fn are_same(one: &Book, other: &Book) -> bool {

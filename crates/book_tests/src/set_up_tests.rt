@@ -4,7 +4,7 @@ use refusals::Refusal;
 use std::alloc::Global;
 use std::test::Fail;
 
-fn refused(heap: Global, first: u32, days: u8, parties: u8, sites: u16) -> Option<Refusal> {
+fn refused(heap: Global, first: u32, days: u8, parties: u8, sites: u16) -> Option<SetUpError> {
     let set_up = SetUp {
         first,
         days,
@@ -13,10 +13,7 @@ fn refused(heap: Global, first: u32, days: u8, parties: u8, sites: u16) -> Optio
         situation_places: 0,
         index_places: 0,
     };
-    match Book::new(heap, set_up) {
-        Err(SetUpError::Refused(refusal)) => Some(refusal),
-        _ => None,
-    }
+    Book::new(heap, set_up).err()
 }
 
 #[test]
@@ -44,7 +41,7 @@ fn bounds(rt: HostRuntime) {
             if good {
                 None
             } else {
-                Some(Refusal::SetupOutOfBounds)
+                Some(SetUpError::Refused(Refusal::SetupOutOfBounds))
             }
         );
     }

@@ -1,5 +1,5 @@
 // Calls of a book, as a line has them, and their answers.
-use crate::words::{after, number};
+use crate::words::{after, byte, number, site_number};
 use book::store::Book;
 use book_rules::{Call, SetUp, Terms};
 use std::alloc::Global;
@@ -8,44 +8,35 @@ use std::alloc::Global;
 pub(crate) fn book_of(heap: Global, line: &str) -> Option<Book> {
     let set_up = SetUp {
         first: number(line, "first", 0)?,
-        days: number(line, "days", 0)?.min(255) as u8,
-        parties: number(line, "parties", 0)?.min(255) as u8,
-        sites: number(line, "sites", 0)?.min(65_535) as u16,
+        days: byte(number(line, "days", 0)?),
+        parties: byte(number(line, "parties", 0)?),
+        sites: site_number(number(line, "sites", 0)?),
         situation_places: number(line, "places", 0)? as usize,
         index_places: number(line, "places", 1)? as usize,
     };
-    match Book::new(heap, set_up) {
-        Ok(book) => Some(book),
-        Err(_) => None,
-    }
+    Book::new(heap, set_up).ok()
 }
 
 // The value of a word of the form KEY=VALUE.
 fn valued(line: &str, key: &str) -> Option<u32> {
-    for word in line.split_whitespace() {
-        if let Some((name, value)) = word.split_once('=') {
-            if name == key {
-                return match value.parse::<u32>() {
-                    Ok(value) => Some(value),
-                    Err(_) => None,
-                };
-            }
-        }
-    }
-    None
+    let (_, value) = line
+        .split_whitespace()
+        .filter_map(|word| word.split_once('='))
+        .find(|(name, _)| *name == key)?;
+    value.parse::<u32>().ok()
 }
 
 fn terms_of(line: &str) -> Option<Terms> {
     Some(Terms {
-        party: valued(line, "party")?.min(255) as u8,
-        class: valued(line, "cls")?.min(255) as u8,
-        power: valued(line, "power")?.min(255) as u8,
+        party: byte(valued(line, "party")?),
+        class: byte(valued(line, "cls")?),
+        power: byte(valued(line, "power")?),
     })
 }
 
 fn call_of(line: &str) -> Option<Call> {
-    let site = valued(line, "site")?.min(65_535) as u16;
-    let day = valued(line, "day")?.min(255) as u8;
+    let site = site_number(valued(line, "site")?);
+    let day = byte(valued(line, "day")?);
     match after(line, "call", 0)? {
         "O" => Some(Call::Open {
             site,
@@ -65,13 +56,13 @@ fn call_of(line: &str) -> Option<Call> {
         }),
         "I" => Some(Call::Enter {
             site,
-            dial: valued(line, "dial")?.min(255) as u8,
+            dial: byte(valued(line, "dial")?),
             day,
             value: valued(line, "value")?,
         }),
         "S" => Some(Call::Strike {
             site,
-            dial: valued(line, "dial")?.min(255) as u8,
+            dial: byte(valued(line, "dial")?),
             day,
         }),
         _ => None,
@@ -80,10 +71,12 @@ fn call_of(line: &str) -> Option<Call> {
 
 // Makes the call of a line: the number that it is answered with, 0 where it is made.
 fn answer(book: &mut Book, line: &str) -> Option<u32> {
-    match book.make(call_of(line)?) {
-        Ok(()) => Some(0),
-        Err(refusal) => Some(refusal.number() as u32),
-    }
+    let answer = book.make(call_of(line)?);
+    Some(
+        answer
+            .err()
+            .map_or(0, |refusal| u32::from(refusal.number())),
+    )
 }
 
 // Whether the call of a line is answered as the line says.

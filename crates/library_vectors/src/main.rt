@@ -5,26 +5,31 @@
 
 use anyhow::anyhow;
 use book::store::Book;
-use calendar::place_of;
+use calendar::{Place, place_of};
 use calling::{book_of, is_answered_so};
 use std::alloc::{AllocError, Global};
-use std::{fs, io};
+use std::{array, fs, io};
 use weighing::{Summary, weigh};
-use words::{after, first, number};
+use words::{after, byte, first, number, words_after};
 
 mod calling;
 mod weighing;
 mod words;
+
+// The source at the bottom of a case.
+#[derive(Clone, Copy)]
+enum Bottom {
+    Flat { half_hours: usize },
+    ByCoefficients { modulus: u32, zeros: u32 },
+}
 
 // What has been read of a case so far.
 #[derive(Drop)]
 struct Case {
     number: u32,
     first: u32,
-    days: usize,
-    flat: Option<usize>,
-    modulus: u32,
-    zeros: u32,
+    days: u32,
+    bottom: Bottom,
     holidays: Vec<u32>,
     layers: Vec<(i16, usize)>,
     book: Option<Book>,
@@ -57,10 +62,10 @@ fn run(rt: &HostRuntime) -> anyhow::Result<()> {
 }
 
 fn tell(rt: &HostRuntime, case: &Case) -> io::Result<()> {
-    let number = case.number;
-    let compared = case.compared;
-    let differing = case.differing;
-    println!(rt; "case {number}: {compared} lines compared, {differing} differ")
+    println!(rt;
+        "case {}: {} lines compared, {} differ",
+        case.number, case.compared, case.differing
+    )
 }
 
 fn new_case(heap: Global, number: u32) -> Case {
@@ -68,9 +73,10 @@ fn new_case(heap: Global, number: u32) -> Case {
         number,
         first: 0,
         days: 0,
-        flat: None,
-        modulus: 1,
-        zeros: 0,
+        bottom: Bottom::ByCoefficients {
+            modulus: 1,
+            zeros: 0,
+        },
         holidays: Vec::new(heap),
         layers: Vec::new(heap),
         book: None,
@@ -84,7 +90,7 @@ fn read_line(case: &mut Case, heap: Global, line: &str) -> Result<(), AllocError
     match first(line) {
         "setup" => {
             case.first = number(line, "first", 0).unwrap_or(0);
-            case.days = number(line, "days", 0).unwrap_or(0) as usize;
+            case.days = number(line, "days", 0).unwrap_or(0);
             case.book = book_of(heap, line);
         }
         "call" => {
@@ -98,7 +104,7 @@ fn read_line(case: &mut Case, heap: Global, line: &str) -> Result<(), AllocError
             compare(case, same);
         }
         "weights" => {
-            let sub_profile = number(line, "weights", 0).unwrap_or(8).min(8) as u8;
+            let sub_profile = byte(number(line, "weights", 0).unwrap_or(8));
             let same = weigh(case, heap, sub_profile)? == summary_of(line);
             compare(case, same);
         }
@@ -116,58 +122,50 @@ fn compare(case: &mut Case, same: bool) {
 
 fn read_source(case: &mut Case, line: &str) -> Result<(), AllocError> {
     if let Some(half_hours) = number(line, "flat", 0) {
-        case.flat = Some(half_hours as usize);
+        case.bottom = Bottom::Flat {
+            half_hours: half_hours as usize,
+        };
         return Ok(());
     }
-    case.modulus = number(line, "m", 0).unwrap_or(1);
-    case.zeros = number(line, "z", 0).unwrap_or(0);
-    for n in 0..64usize {
-        let Some(holiday) = number(line, "holidays", n) else {
-            break;
-        };
-        case.holidays.push(holiday)?;
-    }
-    Ok(())
+    case.bottom = Bottom::ByCoefficients {
+        modulus: number(line, "m", 0).unwrap_or(1),
+        zeros: number(line, "z", 0).unwrap_or(0),
+    };
+    case.holidays.extend(words_after(line, "holidays").map_while(|word| word.parse::<u32>().ok()))
 }
 
 fn layer_of(line: &str) -> (i16, usize) {
-    let threshold = match after(line, "ts", 0) {
-        Some(text) => text.parse::<i16>().unwrap_or(0),
-        None => 0,
-    };
-    (threshold, number(line, "n", 0).unwrap_or(0) as usize)
+    let threshold = after(line, "ts", 0).and_then(|text| text.parse::<i16>().ok());
+    (
+        threshold.unwrap_or(0),
+        number(line, "n", 0).unwrap_or(0) as usize,
+    )
 }
 
 fn summary_of(line: &str) -> Summary {
-    let mut first = [0; 4];
-    for n in 0..4usize {
-        first[n] = number(line, "first", n).unwrap_or(0);
-    }
-    let sum = number(line, "sum", 0).unwrap_or(0) as u64;
-    let checksum = number(line, "checksum", 0).unwrap_or(0) as u64;
     Summary {
-        first,
-        sum,
-        checksum,
+        first: array::from_fn(|n| number(line, "first", n).unwrap_or(0)),
+        sum: u64::from(number(line, "sum", 0).unwrap_or(0)),
+        checksum: u64::from(number(line, "checksum", 0).unwrap_or(0)),
     }
 }
 
 // Week and day of each day, as 13.7, are those of the calendar.
 fn calendar_agrees(case: &Case, line: &str) -> bool {
-    for k in 0..case.days.min(35) {
-        let date = case.first.saturating_add(k as u32);
-        let (Some(place), Some(text)) = (
-            place_of(date, case.holidays.as_slice()),
-            after(line, "calendar", k),
-        ) else {
-            return false;
-        };
-        let Some((week, day)) = text.split_once('.') else {
-            return false;
-        };
-        if week.parse::<u8>() != Ok(place.week) || day.parse::<u8>() != Ok(place.day) {
+    let mut words = words_after(line, "calendar");
+    for date in case.first..case.first.saturating_add(case.days) {
+        let place = place_of(date, case.holidays.as_slice());
+        if place.is_none() || words.next().and_then(place_told) != place {
             return false;
         }
     }
     true
+}
+
+fn place_told(text: &str) -> Option<Place> {
+    let (week, day) = text.split_once('.')?;
+    Some(Place {
+        week: week.parse::<u8>().ok()?,
+        day: day.parse::<u8>().ok()?,
+    })
 }

@@ -1,8 +1,9 @@
 // The sources of a case, and what their weights come to.
-use super::Case;
+use super::{Bottom, Case};
 use coefficients::Coefficients;
 use sources::{Flat, ProfileSource};
 use std::alloc::{AllocError, Global};
+use std::array;
 use temperature::TemperatureLayer;
 
 // What is told of the weights of a sub-profile: the first four, the sum of all, and a checksum that knows their places.
@@ -15,14 +16,16 @@ pub(crate) struct Summary {
 
 // The summary of a sub-profile's weights in the source of a case.
 pub(crate) fn weigh(case: &Case, heap: Global, sub_profile: u8) -> Result<Summary, AllocError> {
-    match case.flat {
-        Some(half_hours) => under_layers(case, heap, Flat::over(half_hours), sub_profile),
-        None => {
-            let list = coefficients_of(case, heap)?;
+    match case.bottom {
+        Bottom::Flat { half_hours } => {
+            under_layers(case, heap, Flat::over(half_hours), sub_profile)
+        }
+        Bottom::ByCoefficients { modulus, zeros } => {
+            let list = coefficients_of(heap, case.number, modulus, zeros)?;
             let source = Coefficients::over(
                 list.as_slice(),
                 case.first,
-                case.days,
+                case.days as usize,
                 case.holidays.as_slice(),
             );
             under_layers(case, heap, source, sub_profile)
@@ -54,9 +57,10 @@ fn layered<S: ProfileSource + Drop>(
     layer: (i16, usize),
 ) -> Result<TemperatureLayer<S>, AllocError> {
     let (threshold, places) = layer;
-    let gradients = gradients_of(case.number);
-    let normal = temperatures(heap, places, 37, 11 * case.number as u64)?;
-    let measured = temperatures(heap, places, 53, 17 * case.number as u64)?;
+    let number = u64::from(case.number);
+    let gradients: [u16; 8] = array::from_fn(|i| ((291 * i as u64 + 7 * number) % 2001) as u16);
+    let normal = temperatures(heap, places, 37, 11 * number)?;
+    let measured = temperatures(heap, places, 53, 17 * number)?;
     let mut source = TemperatureLayer::over(below);
     let _ = source.load(
         threshold,
@@ -67,47 +71,48 @@ fn layered<S: ProfileSource + Drop>(
     Ok(source)
 }
 
-fn gradients_of(number: u32) -> [u16; 8] {
-    let mut gradients = [0u16; 8];
-    for i in 0..8usize {
-        gradients[i] = ((291 * i as u64 + 7 * number as u64) % 2001) as u16;
-    }
-    gradients
-}
-
 fn temperatures(heap: Global, places: usize, step: u8, start: u64) -> Result<Vec<i16>, AllocError> {
-    let mut list = Vec::new(heap);
-    for i in 0..places {
-        let place = i as u128 * step as u128 + start as u128;
-        list.push((place % 1001) as i16 - 500)?;
-    }
-    Ok(list)
+    (0..places)
+        .map(|i| {
+            let place = i as u128 * u128::from(step) + u128::from(start);
+            (place % 1001) as i16 - 500
+        })
+        .collect(heap)
 }
 
-fn coefficients_of(case: &Case, heap: Global) -> Result<Vec<u16>, AllocError> {
-    let u = case.number as u64;
-    let mut list = Vec::new(heap);
-    for i in 0..3160u64 {
-        let zero = case.zeros > 0 && (i + u) % case.zeros as u64 == 0;
-        let value = 200 + (7919 * i + 104_729 * u) % (case.modulus as u64).max(1);
-        list.push(if zero { 0 } else { value.min(65_535) as u16 })?;
-    }
-    Ok(list)
+fn coefficients_of(
+    heap: Global,
+    number: u32,
+    modulus: u32,
+    zeros: u32,
+) -> Result<Vec<u16>, AllocError> {
+    let u = u64::from(number);
+    (0..3160u64)
+        .map(|i| {
+            if zeros > 0 && (i + u) % u64::from(zeros) == 0 {
+                return 0;
+            }
+            let value = 200 + (7919 * i + 104_729 * u) % u64::from(modulus).max(1);
+            u16::try_from(value).unwrap_or(u16::MAX)
+        })
+        .collect(heap)
 }
 
 fn summed_up<S: ProfileSource>(source: &S, sub_profile: u8) -> Summary {
     let mut first = [0; 4];
     let mut sum: u64 = 0;
     let mut checksum: u64 = 0;
-    for t in 0..1680usize {
-        let Some(weight) = source.weight(sub_profile, t) else {
-            break;
-        };
-        if t < 4 {
-            first[t] = weight;
+    for (t, weight) in (0..1680usize)
+        .map_while(|t| source.weight(sub_profile, t))
+        .enumerate()
+    {
+        if let Some(place) = first.get_mut(t) {
+            *place = weight;
         }
-        sum = sum.saturating_add(weight as u64);
-        checksum = checksum.saturating_add((t as u64 + 1) * weight as u64) % 1_000_000_007;
+        let weight = u64::from(weight);
+        sum = sum.saturating_add(weight);
+        checksum = checksum.saturating_add((t as u64).saturating_add(1).saturating_mul(weight))
+            % 1_000_000_007;
     }
     Summary {
         first,

@@ -1,32 +1,31 @@
 // Words of a line.
+use std::str::SplitWhitespace;
 
 // The word that stands `n` places behind the word `key`.
 pub(crate) fn after<'a>(line: &'a str, key: &str, n: usize) -> Option<&'a str> {
-    let mut left: Option<usize> = None;
-    for word in line.split_whitespace() {
-        match left {
-            Some(0) => return Some(word),
-            Some(more) => left = Some(more.saturating_sub(1)),
-            None => {
-                if word == key {
-                    left = Some(n);
-                }
-            }
-        }
-    }
-    None
+    words_after(line, key).nth(n)
+}
+
+// The words behind the word `key`.
+pub(crate) fn words_after<'a>(line: &'a str, key: &str) -> SplitWhitespace<'a> {
+    let mut words = line.split_whitespace();
+    let _ = words.find(|word| *word == key);
+    words
 }
 
 pub(crate) fn number(line: &str, key: &str, n: usize) -> Option<u32> {
-    match after(line, key, n)?.parse::<u32>() {
-        Ok(value) => Some(value),
-        Err(_) => None,
-    }
+    after(line, key, n)?.parse::<u32>().ok()
+}
+
+// A number that is too wide for its place stands at the widest one, which every rule refuses.
+pub(crate) fn byte(number: u32) -> u8 {
+    u8::try_from(number).unwrap_or(u8::MAX)
+}
+
+pub(crate) fn site_number(number: u32) -> u16 {
+    u16::try_from(number).unwrap_or(u16::MAX)
 }
 
 pub(crate) fn first(line: &str) -> &str {
-    match line.split_whitespace().next() {
-        Some(word) => word,
-        None => "",
-    }
+    line.split_whitespace().next().unwrap_or("")
 }

@@ -4,19 +4,15 @@ use book_rules::{Call, SetUp, Terms};
 
 // The number at a place behind the first word.
 fn number(line: &str, place: usize) -> Option<u32> {
-    let word = line.split_whitespace().nth(place)?;
-    match word.parse::<u32>() {
-        Ok(value) => Some(value),
-        Err(_) => None,
-    }
+    line.split_whitespace().nth(place)?.parse::<u32>().ok()
 }
 
 fn byte(line: &str, place: usize) -> Option<u8> {
-    Some(number(line, place)?.min(255) as u8)
+    Some(u8::try_from(number(line, place)?).unwrap_or(u8::MAX))
 }
 
-fn site(line: &str) -> Option<u16> {
-    Some(number(line, 1)?.min(65_535) as u16)
+fn site(line: &str, place: usize) -> Option<u16> {
+    Some(u16::try_from(number(line, place)?).unwrap_or(u16::MAX))
 }
 
 fn terms(line: &str) -> Option<Terms> {
@@ -36,7 +32,7 @@ pub(crate) fn set_up_of(line: &str) -> Option<SetUp> {
         first: number(line, 1)?,
         days: byte(line, 2)?,
         parties: byte(line, 3)?,
-        sites: number(line, 4)?.min(65_535) as u16,
+        sites: site(line, 4)?,
         situation_places: number(line, 5)? as usize,
         index_places: number(line, 6)? as usize,
     })
@@ -46,32 +42,32 @@ pub(crate) fn set_up_of(line: &str) -> Option<SetUp> {
 pub(crate) fn call_of(line: &str) -> Option<Call> {
     match line.split_whitespace().next()? {
         "open" => Some(Call::Open {
-            site: site(line)?,
+            site: site(line, 1)?,
             day: byte(line, 2)?,
             terms: terms(line)?,
         }),
         "modify" => Some(Call::Modify {
-            site: site(line)?,
+            site: site(line, 1)?,
             day: byte(line, 2)?,
             terms: terms(line)?,
         }),
         "end" => Some(Call::End {
-            site: site(line)?,
+            site: site(line, 1)?,
             day: byte(line, 2)?,
         }),
         "correct" => Some(Call::Correct {
-            site: site(line)?,
+            site: site(line, 1)?,
             day: byte(line, 2)?,
             terms: terms(line)?,
         }),
         "enter" => Some(Call::Enter {
-            site: site(line)?,
+            site: site(line, 1)?,
             dial: byte(line, 2)?,
             day: byte(line, 3)?,
             value: number(line, 4)?,
         }),
         "strike" => Some(Call::Strike {
-            site: site(line)?,
+            site: site(line, 1)?,
             dial: byte(line, 2)?,
             day: byte(line, 3)?,
         }),

@@ -2,9 +2,9 @@
 // book then holds. docs/book.md has the form of a line.
 #![tactic(auto)]
 
-use anyhow::anyhow;
+use anyhow::{Context, bail};
 use book::store::Book;
-use book_rules::{Call, SetUp, SetUpError};
+use book_rules::{Call, SetUp, SetUpError, Terms};
 use refusals::Refusal;
 use replay::replayed;
 use std::io;
@@ -18,11 +18,11 @@ fn main(rt: HostRuntime) -> anyhow::Result<()> {
 fn run(rt: &HostRuntime) -> anyhow::Result<()> {
     let (set_up, calls) = read(rt)?;
     match replayed(rt.alloc(), set_up, calls.as_slice()) {
-        Err(SetUpError::Refused(refusal)) => {
-            let number = refusal.number();
-            println!(rt; "set-up refused with {number}")?;
-        }
-        Err(SetUpError::OutOfMemory) => return Err(anyhow!("there is no memory for the book")),
+        Err(SetUpError::Refused(refusal)) => println!(rt;
+            "set-up refused with {}",
+            refusal.number()
+        )?,
+        Err(SetUpError::OutOfMemory) => bail!("there is no memory for the book"),
         Ok(result) => {
             print_answers(rt, result.answers.as_slice())?;
             print_contents(rt, &result.book, set_up)?;
@@ -35,10 +35,8 @@ fn run(rt: &HostRuntime) -> anyhow::Result<()> {
 fn read(rt: &HostRuntime) -> anyhow::Result<(SetUp, Vec<Call>)> {
     let mut set_up: Option<SetUp> = None;
     let mut calls: Vec<Call> = Vec::new(rt.alloc());
-    let mut number: u64 = 0;
-    for line in rt.lines(rt.alloc()) {
+    for (number, line) in (1u64..).zip(rt.lines(rt.alloc())) {
         let line = line?;
-        number = number.saturating_add(1);
         let text = line.as_str();
         if text.is_empty() || text.starts_with('#') {
             continue;
@@ -46,25 +44,17 @@ fn read(rt: &HostRuntime) -> anyhow::Result<(SetUp, Vec<Call>)> {
         match (set_up, lines::set_up_of(text), lines::call_of(text)) {
             (None, Some(first), _) => set_up = Some(first),
             (Some(_), _, Some(call)) => calls.push(call)?,
-            _ => return Err(anyhow!(format!(in rt.alloc();
-                "line {number}: neither a call nor the set-up that comes first"
-            )?)),
+            _ => bail!("line {number}: neither a call nor the set-up that comes first"),
         }
     }
-    match set_up {
-        Some(set_up) => Ok((set_up, calls)),
-        None => Err(anyhow!("there is no set-up")),
-    }
+    Ok((set_up.context("there is no set-up")?, calls))
 }
 
 fn print_answers(rt: &HostRuntime, answers: &[Result<(), Refusal>]) -> io::Result<()> {
     for (k, answer) in answers.iter().enumerate() {
         match answer {
             Ok(()) => println!(rt; "call {k}: made")?,
-            Err(refusal) => {
-                let number = refusal.number();
-                println!(rt; "call {k}: refused with {number}")?;
-            }
+            Err(refusal) => println!(rt; "call {k}: refused with {}", refusal.number())?,
         }
     }
     Ok(())
@@ -78,8 +68,7 @@ fn print_contents(rt: &HostRuntime, book: &Book, set_up: SetUp) -> io::Result<()
         for dial in 1..3u8 {
             for day in 0..36u8 {
                 if let Some(index) = book.index_standing(site, dial, day) {
-                    let value = index.value;
-                    println!(rt; "site {site} dial {dial} day {day}: {value} Wh")?;
+                    println!(rt; "site {site} dial {dial} day {day}: {} Wh", index.value)?;
                 }
             }
         }
@@ -91,15 +80,14 @@ fn print_situation(rt: &HostRuntime, book: &Book, site: u16, day: u8) -> io::Res
     let Some(situation) = book.situation_starting(site, day) else {
         return Ok(());
     };
-    let party = situation.terms.party;
-    let class = situation.terms.class;
-    let power = situation.terms.power;
     match situation.end {
-        Some(end) => println!(rt;
-            "site {site} from day {day} to day {end}: party {party}, class {class}, {power} kVA"
-        ),
-        None => println!(rt;
-            "site {site} from day {day} on: party {party}, class {class}, {power} kVA"
-        ),
+        Some(end) => print!(rt; "site {site} from day {day} to day {end}: ")?,
+        None => print!(rt; "site {site} from day {day} on: ")?,
     }
+    let Terms {
+        party,
+        class,
+        power,
+    } = situation.terms;
+    println!(rt; "party {party}, class {class}, {power} kVA")
 }

@@ -57,10 +57,7 @@ fn figures(rt: HostRuntime) {
     for case in CASES.iter() {
         // the place past the weights stays as it was
         let mut places = [9, 9, 9, 9, 77];
-        let mut sum: u64 = 0;
-        for weight in case.weights {
-            sum = sum.saturating_add(weight as u64);
-        }
+        let sum: u64 = case.weights.iter().map(|weight| u64::from(*weight)).sum();
         assert_eq!(rt;
             share(case.energy, &case.weights, &mut places),
             Some(sum),

@@ -1,13 +1,10 @@
 use coefficients::Coefficients;
 use sources::ProfileSource;
+use std::array;
 
 // Each number tells its place: i mod 1,000 + 500.
 fn list() -> [u16; 3_161] {
-    let mut list = [0u16; 3_161];
-    for i in 0..3_161usize {
-        list[i] = (i % 1_000 + 500) as u16;
-    }
-    list
+    array::from_fn(|i| (i % 1_000 + 500) as u16)
 }
 
 #[test]

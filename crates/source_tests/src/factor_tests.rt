@@ -4,10 +4,7 @@ use refusals::Refusal;
 use std::test::Fail;
 
 fn refused(k: u32, thetas: &[u32]) -> Option<Refusal> {
-    match Thresholds::of(k, thetas) {
-        Ok(_) => None,
-        Err(refusal) => Some(refusal),
-    }
+    Thresholds::of(k, thetas).err()
 }
 
 #[test]

@@ -1,5 +1,6 @@
 use refusals::Refusal;
 use sources::{Flat, ProfileSource};
+use std::process::Abort;
 use temperature::TemperatureLayer;
 
 struct Case {
@@ -118,51 +119,56 @@ fn weights_under_layers(rt: HostRuntime) {
 
 // What a load of these answers. A refusal leaves the weight of half-hour 0 as it was.
 fn load(
+    rt: &impl Abort,
     threshold: i16,
     gradients: &[u16],
     normal: &[i16],
     measured: &[i16],
-) -> Result<(), Option<Refusal>> {
+) -> Result<(), Refusal> {
     let mut layer = TemperatureLayer::over(Flat::over(1_680));
     let _ = layer.load(500, &[100; 8], &[10], &[0]);
     let before = layer.weight(0, 0);
-    match layer.load(threshold, gradients, normal, measured) {
-        Ok(()) => Ok(()),
-        Err(refusal) => Err(if layer.weight(0, 0) == before {
-            Some(refusal)
-        } else {
-            None
-        }),
+    let answer = layer.load(threshold, gradients, normal, measured);
+    if answer.is_err() {
+        assert_eq!(rt; layer.weight(0, 0), before, "changed by a refused load");
     }
+    answer
 }
 
 #[test]
 fn refusals_of_a_load(rt: HostRuntime) {
-    let short = Err(Some(Refusal::BufferTooShort));
-    let unequal = Err(Some(Refusal::CoverageDiffers));
-    let bounds = Err(Some(Refusal::ValueOutOfBounds));
-    assert_eq!(rt; load(0, &[0; 8], &[], &[]), Ok(()));
+    let short = Err(Refusal::BufferTooShort);
+    let unequal = Err(Refusal::CoverageDiffers);
+    let bounds = Err(Refusal::ValueOutOfBounds);
+    assert_eq!(rt; load(&rt, 0, &[0; 8], &[], &[]), Ok(()));
     assert_eq!(rt;
-        load(-500, &[2_000; 8], &[500; 1_680], &[-500; 1_680]),
+        load(&rt, -500, &[2_000; 8], &[500; 1_680], &[-500; 1_680]),
         Ok(())
     );
     assert_eq!(rt;
-        load(500, &[0, 0, 0, 0, 0, 0, 0, 0, 9_999], &[1], &[1]),
+        load(&rt, 500, &[0, 0, 0, 0, 0, 0, 0, 0, 9_999], &[1], &[1]),
         Ok(()),
         "a ninth gradient is not read"
     );
-    assert_eq!(rt; load(501, &[0; 7], &[1], &[]), short, "before all others");
     assert_eq!(rt;
-        load(501, &[0; 8], &[1], &[]),
+        load(&rt, 501, &[0; 7], &[1], &[]),
+        short,
+        "before all others"
+    );
+    assert_eq!(rt;
+        load(&rt, 501, &[0; 8], &[1], &[]),
         unequal,
         "before numbers out of bounds"
     );
-    assert_eq!(rt; load(0, &[0; 8], &[0; 1_681], &[0; 1_681]), unequal);
-    assert_eq!(rt; load(501, &[0; 8], &[], &[]), bounds);
-    assert_eq!(rt; load(-501, &[0; 8], &[], &[]), bounds);
-    assert_eq!(rt; load(0, &[0, 0, 0, 0, 0, 0, 0, 2_001], &[], &[]), bounds);
-    assert_eq!(rt; load(0, &[0; 8], &[0, 501], &[0, 0]), bounds);
-    assert_eq!(rt; load(0, &[0; 8], &[0, 0], &[0, -501]), bounds);
+    assert_eq!(rt; load(&rt, 0, &[0; 8], &[0; 1_681], &[0; 1_681]), unequal);
+    assert_eq!(rt; load(&rt, 501, &[0; 8], &[], &[]), bounds);
+    assert_eq!(rt; load(&rt, -501, &[0; 8], &[], &[]), bounds);
+    assert_eq!(rt;
+        load(&rt, 0, &[0, 0, 0, 0, 0, 0, 0, 2_001], &[], &[]),
+        bounds
+    );
+    assert_eq!(rt; load(&rt, 0, &[0; 8], &[0, 501], &[0, 0]), bounds);
+    assert_eq!(rt; load(&rt, 0, &[0; 8], &[0, 0], &[0, -501]), bounds);
 }
 
 #[test]

@@ -2,7 +2,7 @@
 // ends with an error where one differs. The special days of 2005 are in data/special-days-2005.csv.
 #![tactic(auto)]
 
-use anyhow::anyhow;
+use anyhow::{Context, ensure};
 use calendar::{Place, civil_date, date_on, place_of};
 use std::alloc::{AllocError, Global};
 use std::{fs, io};
@@ -24,35 +24,25 @@ fn main(rt: HostRuntime) -> anyhow::Result<()> {
 fn run(rt: &HostRuntime) -> anyhow::Result<()> {
     let table = fs::read_to_string(rt, "special-days-2005.csv")?;
     let holidays = holidays_of(rt.alloc(), table.as_str())?;
-    let mut wrong: u32 = 0;
+    let mut all_hold = true;
     for line in table.as_str().lines().skip(1) {
-        let Some(row) = row_of(line) else {
-            return Err(anyhow!("a row of the table cannot be read"));
-        };
-        if !holds(rt, &row, holidays.as_slice())? {
-            wrong = wrong.saturating_add(1);
-        }
+        let row = row_of(line).context("a row of the table cannot be read")?;
+        all_hold &= holds(rt, &row, holidays.as_slice())?;
     }
-    if !bridges_into_april(rt)? {
-        wrong = wrong.saturating_add(1);
-    }
-    if wrong > 0 {
-        return Err(anyhow!("a place differs from its known one"));
-    }
+    all_hold &= bridges_into_april(rt)?;
+    ensure!(all_hold, "a place differs from its known one");
     Ok(())
 }
 
 // The dates of the rows that are holidays.
 fn holidays_of(heap: Global, table: &str) -> Result<Vec<u32>, AllocError> {
-    let mut holidays = Vec::new(heap);
-    for line in table.lines().skip(1) {
-        if let Some(row) = row_of(line)
-            && row.holiday
-        {
-            holidays.push(row.date)?;
-        }
-    }
-    Ok(holidays)
+    table
+        .lines()
+        .skip(1)
+        .filter_map(row_of)
+        .filter(|row| row.holiday)
+        .map(|row| row.date)
+        .collect(heap)
 }
 
 // The month of the holiday counts, not that of the day before it.
@@ -69,50 +59,37 @@ fn bridges_into_april(rt: &HostRuntime) -> io::Result<bool> {
 // Prints a row with what the calendar answers, and tells whether that is the known place.
 fn holds(rt: &HostRuntime, row: &Row<'_>, holidays: &[u32]) -> io::Result<bool> {
     let name = row.name;
-    let known = row.known;
-    match (civil_date(row.date), place_of(row.date, holidays)) {
-        (Some(civil), Some(place)) => {
-            let same = place == known;
-            let verdict = if same {
-                "as known"
-            } else {
-                "WHICH IS NOT THE KNOWN PLACE"
-            };
-            let week = place.week;
-            let day = place.day;
-            println!(rt; "{civil} {name}: week {week} day {day}, {verdict}")?;
-            Ok(same)
-        }
-        _ => {
-            println!(rt; "{name}: NO DATE")?;
-            Ok(false)
-        }
-    }
+    let (Some(civil), Some(place)) = (civil_date(row.date), place_of(row.date, holidays)) else {
+        println!(rt; "{name}: NO DATE")?;
+        return Ok(false);
+    };
+    let same = place == row.known;
+    let verdict = if same {
+        "as known"
+    } else {
+        "WHICH IS NOT THE KNOWN PLACE"
+    };
+    let Place { week, day } = place;
+    println!(rt; "{civil} {name}: week {week} day {day}, {verdict}")?;
+    Ok(same)
 }
 
 // A row of the table: date, name, whether a holiday, week, day of the calendar, day counted.
 fn row_of(line: &str) -> Option<Row<'_>> {
-    let mut fields = [""; 6];
-    for (place, text) in line.split(',').enumerate() {
-        if place < 6 {
-            fields[place] = text;
-        }
-    }
-    let [date, name, holiday, week, _, counted] = fields;
+    let mut fields = line.split(',');
+    let date = date_on(day(fields.next()?.as_bytes())?)?;
+    let name = fields.next()?;
+    let holiday = fields.next()? == "yes";
+    let week = small(fields.next()?)?;
+    let counted = small(fields.nth(1)?)?;
     Some(Row {
-        date: date_on(day(date.as_bytes())?)?,
+        date,
         name,
-        holiday: holiday == "yes",
-        known: Place {
-            week: small(week)?,
-            day: small(counted)?,
-        },
+        holiday,
+        known: Place { week, day: counted },
     })
 }
 
 fn small(text: &str) -> Option<u8> {
-    match u8::try_from(decimal(text.as_bytes())?) {
-        Ok(value) => Some(value),
-        Err(_) => None,
-    }
+    u8::try_from(decimal(text.as_bytes())?).ok()
 }
