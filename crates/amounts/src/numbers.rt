@@ -21,26 +21,17 @@ pub(crate) fn less(a: i64, b: i64) -> i64
 pub(crate) fn wide_sum(a: i64, b: i64) -> i128
     ensures { result ≡ a +ℤ b }
 {
-    a as i128 + b as i128
+    i128::from(a) + i128::from(b)
 }
 
 pub(crate) fn told_of(x: i128) -> i64
     ensures { result ≡ told x }
 {
-    if x > MOST {
-        return MOST as i64;
-    }
-    if x < -MOST {
-        return -MOST as i64;
-    }
-    x as i64
+    x.clamp(-MOST, MOST) as i64
 }
 
 pub(crate) fn told_size_of(size: u128) -> u64
     ensures { result ≡ told_size size }
 {
-    if size > MOST as u128 {
-        return MOST as u64;
-    }
-    size as u64
+    size.min(MOST.unsigned_abs()) as u64
 }

@@ -38,7 +38,7 @@ impl Amount for Plain {
     }
 
     fn of(wh: u32, _dial: u8) -> Plain {
-        Plain { wh: wh as i64 }
+        Plain { wh: i64::from(wh) }
     }
 
     fn join(self, other: Plain) -> Plain {
@@ -54,10 +54,10 @@ impl Amount for Plain {
     }
 
     fn energy_told(&self) -> i64 {
-        told_of(self.wh as i128)
+        told_of(i128::from(self.wh))
     }
 
     fn size_told(&self) -> u64 {
-        told_size_of(self.wh.unsigned_abs() as u128)
+        told_size_of(u128::from(self.wh.unsigned_abs()))
     }
 }

@@ -65,20 +65,12 @@ impl Amount for Split {
     }
 
     fn of(wh: u32, dial: u8) -> Split {
-        let pieces = 1;
-        let wh = wh as i64;
-        if dial == 1 {
-            Split {
-                first: wh,
-                second: 0,
-                pieces,
-            }
-        } else {
-            Split {
-                first: 0,
-                second: wh,
-                pieces,
-            }
+        let wh = i64::from(wh);
+        let (first, second) = if dial == 1 { (wh, 0) } else { (0, wh) };
+        Split {
+            first,
+            second,
+            pieces: 1,
         }
     }
 
@@ -103,8 +95,8 @@ impl Amount for Split {
     }
 
     fn size_told(&self) -> u64 {
-        let first = self.first.unsigned_abs() as u128;
-        let second = self.second.unsigned_abs() as u128;
-        told_size_of(first + second + self.pieces.unsigned_abs() as u128)
+        let first = u128::from(self.first.unsigned_abs());
+        let second = u128::from(self.second.unsigned_abs());
+        told_size_of(first + second + u128::from(self.pieces.unsigned_abs()))
     }
 }

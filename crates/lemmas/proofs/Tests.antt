@@ -1,14 +1,8 @@
 -- A loop that tests every element: its invariant is that what is left to test decides. Assumes nothing.
-use Rattle.std.proofs.Common.{◌≡◌, ℕ, zero, suc, ◌+◌, ◌<◌, ◌≤◌, Bool, true, false, ◌&&◌, List, [], ◌∷◌, length, get_or, drop, ap, ◌∙◌, arith}
+use Rattle.std.proofs.Common.{◌≡◌, ℕ, ◌+◌, ◌<◌, ◌≤◌, Bool, true, false, ◌&&◌, List, length, get_or, drop, ap, ◌∙◌}
 use Rattle.std.proofs.lemmas.List.{at_drop_more, at_drop_all}
-use Rattle.std.proofs.lemmas.Bool.{and_left, and_parts}
+use Rattle.std.proofs.lemmas.Bool.{and_left}
 use Rattle.lemmas.specs.Every.{every}
-
--- what every element passes, each passes
-pub every_at : {X : Type 0} (p : X → Bool) (xs : List X) (i : ℕ) (d : X) → every p xs ≡ true → i < length xs → p (get_or xs i d) ≡ true
-every_at p [] i d all h = absurd (omega arith)
-every_at p (x ∷ xs) zero d all h = (and_parts _ _ all).0
-every_at p (x ∷ xs) (suc i) d all h = every_at p xs i d (and_parts _ _ all).1 (omega arith)
 
 module _ {X : Type 0} (p : X → Bool) (xs : List X) (i : ℕ) (left : every p xs ≡ every p (drop i xs)) where
   next : (d : X) → i < length xs → every p (drop i xs) ≡ (p (get_or xs i d) && every p (drop (i + 1) xs))
