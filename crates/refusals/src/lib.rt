@@ -2,8 +2,11 @@
 // the one with the lowest number answers. docs/refusals.md has the list with its conditions.
 #![tactic(auto)]
 
-ghost use Rattle.std.specs.Prelude.{◌≡◌};
-ghost use Rattle.refusals.specs.Numbers.{number_of, Numbered};
+ghost use Rattle.std.specs.Prelude.{◌≡◌, Some};
+ghost use Rattle.refusals.specs.Numbers.{number_of, Numbered, text_of};
+
+use std::error::Error;
+use std::fmt;
 
 #[derive(Clone, Copy, PartialEq, Eq, Debug)]
 pub enum Refusal {
@@ -40,6 +43,18 @@ impl Refusal {
         self as u8
     }
 }
+
+// `refused with` and the number.
+impl fmt::Display for Refusal {
+    ghost output = { λ r. Some (text_of r) };
+
+    fn fmt<W: fmt::Write>(&self, f: &mut fmt::Formatter<W>) -> fmt::Result {
+        let number = self.number();
+        write!(f, "refused with {number}")
+    }
+}
+
+impl Error for Refusal {}
 
 // A number names one refusal only, and all numbers lie between 1 and 23.
 pub fn numbers_tell_refusals_apart()
