@@ -10,10 +10,7 @@ use book_rules::Index;
 fn contradicts(day: u8, value: u32, e: u8, index: Option<Index>) -> bool
     ensures { result ≡ against day value e index }
 {
-    match index {
-        None => false,
-        Some(index) => e < day && value < index.value || day < e && index.value < value,
-    }
+    index.is_some_and(|index| e < day && value < index.value || day < e && index.value < value)
 }
 
 impl ByDay<Index> {

@@ -13,11 +13,8 @@ fn service_on(start: u8, situation: Option<Situation>, day: u8) -> Option<Servic
     ensures { result ≡ service_of start situation day }
 {
     let situation = situation?;
-    match situation.end {
-        Some(end) if day >= end => None,
-        _ if start > day => None,
-        _ => Some(Service { start, situation }),
-    }
+    let is_covered = start <= day && situation.end.is_none_or(|end| day < end);
+    is_covered.then_some(Service { start, situation })
 }
 
 impl Site {

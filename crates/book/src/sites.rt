@@ -1,7 +1,8 @@
 // What is read off a site and what is put into it. The book has ruled on the call; nothing here refuses.
-ghost use Rattle.std.specs.Prelude.{◌≡◌, ℕ, Some, None};
+ghost use Rattle.std.specs.Prelude.{◌≡◌, ℕ, ◌<◌, Some, None};
+ghost use Rattle.book_rules.specs.Telling.{begun};
 ghost use Rattle.book_rules.specs.Tests.{standing_on, standing_by};
-ghost use Rattle.book.specs.Sites.{starting, NoEntries, StandsAt, SameStarts, SameIndexesOf, corrected, Closes, Serves, IsKept, IsKeptAt, dial_days};
+ghost use Rattle.book.specs.Sites.{starting, NoEntries, Starts, StandsAt, SameStarts, SameIndexesOf, corrected, Closes, Serves, IsKept, IsKeptAt, dial_days};
 
 use crate::by_day::ByDay;
 use crate::site::Site;
@@ -60,20 +61,25 @@ impl Site {
         }
     }
 
+    // A situation starts.
+    fn begin(&mut self, day: u8, terms: Terms)
+        ensures put { day < 36 → Starts self.old self.new day (Some (begun terms)) }
+        ensures same { SameIndexesOf self.old self.new }
+    {
+        self.situations
+            .put(day, Some(Situation { end: None, terms }));
+    }
+
     // The situation that starts on a day ends on another.
     fn close(&mut self, start: u8, day: u8)
         ensures put { Closes self.old self.new start day }
         ensures same { SameIndexesOf self.old self.new }
     {
-        if let Some(situation) = self.situations.at(start) {
-            self.situations.put(
-                start,
-                Some(Situation {
-                    end: Some(day),
-                    ..situation
-                }),
-            );
-        }
+        let ended = self.situations.at(start).map(|situation| Situation {
+            end: Some(day),
+            ..situation
+        });
+        self.situations.put(start, ended);
     }
 
     // The situation that starts on a day gets new terms.
@@ -81,10 +87,11 @@ impl Site {
         ensures put { (e : ℕ) → starting self.new e ≡ corrected day terms (starting self.old) e }
         ensures same { SameIndexesOf self.old self.new }
     {
-        if let Some(situation) = self.situations.at(day) {
-            self.situations
-                .put(day, Some(Situation { terms, ..situation }));
-        }
+        let corrected = self
+            .situations
+            .at(day)
+            .map(|situation| Situation { terms, ..situation });
+        self.situations.put(day, corrected);
     }
 
     // Does what a call does, by how the site stands, in place.
@@ -92,16 +99,13 @@ impl Site {
         ensures { IsKept call → Serves self.old self.new call }
     {
         match (self.standing(), call) {
-            (_, Call::Open { day, terms, .. }) => self
-                .situations
-                .put(day, Some(Situation { end: None, terms })),
+            (_, Call::Open { day, terms, .. }) => self.begin(day, terms),
             (Standing::Running(start), Call::Modify { day, terms, .. }) => {
                 self.close(start, day);
-                self.situations
-                    .put(day, Some(Situation { end: None, terms }));
+                self.begin(day, terms);
             }
-            (Standing::Running(start), Call::End { day, .. }) => self.close(start, day),
-            (Standing::Ended { start, .. }, Call::End { day, .. }) => self.close(start, day),
+            (Standing::Running(start) | Standing::Ended { start, .. }, Call::End { day, .. }) =>
+                self.close(start, day),
             (_, Call::Correct { day, terms, .. }) => self.correct(day, terms),
             (
                 _,
