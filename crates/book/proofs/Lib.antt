@@ -1,4 +1,5 @@
-pub mod Firsts
+pub mod Acting
+pub mod Counted
+pub mod Ruled
 pub mod Services
 pub mod Storage
-pub mod Acting

@@ -29,10 +29,8 @@ missed f n d past h b x e =
     (λ (ge : n ≤ b). absurd (not_none (f b) e (past b ge)))
     (cases_lt b n)
 
--- one start more that does not
-pub one_more : (f : ℕ → Option Situation) (n d : ℕ) → ((b : ℕ) → b < n → service_of b (f b) d ≡ None) → service_of n (f n) d ≡ None → (b : ℕ) → b < n + 1 → service_of b (f b) d ≡ None
-one_more f n d h k b lt =
-    ⊎_elim {C = service_of b (f b) d ≡ None}
-    (λ (l : b < n). h b l)
-    (λ (g : n ≤ b). let q : n ≡ b = omega arith in subst (λ (z : ℕ). service_of z (f z) d ≡ None) q k)
-    (cases_lt b n)
+-- what a walk over the starts below n finds
+pub serving : (f : ℕ → Option Situation) (n d : ℕ) → ((b : ℕ) → n ≤ b → f b ≡ None) → (r : Option Service)
+    → (r ≡ None → (b : ℕ) → b < n → service_of b (f b) d ≡ None) → ((v : Service) → r ≡ Some v → (b : ℕ) × (Some v ≡ service_of b (f b) d)) → Serving f d r
+serving f n d past None none one = missed f n d past (none refl)
+serving f n d past (Some v) none one = let w = one v refl in found f w.0 d v w.1

@@ -26,13 +26,13 @@ abbrev pub AllEmpty : List Site → Type 0
 AllEmpty xs = (s : ℕ) → NoEntries (slice_index_or xs s no_site)
 
 abbrev pub setup : Book → Setup
-setup b = record { days = b.days; parties = b.parties; sites = vec_len b.sites; situation_places = b.situation_places; index_places = b.index_places }
+setup b = record { days = b.days; parties = b.parties; sites = vec_len b.sites; situation_places = b.situations.most; index_places = b.indexes.most }
 
 abbrev pub held : List Site → ℕ → ℕ → Contents
 held xs i j = record { situation = λ s. starting (slice_index_or xs s no_site); index = λ s. standing_index (slice_index_or xs s no_site); situations = i; indexes = j }
 
 abbrev pub contents : Book → Contents
-contents b = held (vec_items b.sites) b.situation_count b.index_count
+contents b = held (vec_items b.sites) b.situations.taken b.indexes.taken
 
 -- The number of a ruling's refusal.
 abbrev pub ruled : Option Refusal → Option ℕ

@@ -1,5 +1,7 @@
 -- What is kept of a site, as functions of the day.
-use Rattle.std.specs.Prelude.{◌≡◌, ℕ, ◌<◌, Bool, true, false, cond, ◌&&◌, Some, None, Option, ◌==◌, nat_le, nat_lt, slice_index_or}
+use Rattle.std.specs.Prelude.{◌≡◌, ℕ, ◌<◌, ◌≤◌, Bool, true, false, cond, ◌&&◌, Some, None, Option, ◌==◌, nat_le, nat_lt, slice_index_or}
+use Rattle.profiles.specs.declared.Dial.{Dial}
+use Rattle.profiles.specs.declared.Dial.TheVariants.{First, Second}
 use Rattle.book_rules.specs.declared.Situation.{Situation}
 use Rattle.book_rules.specs.declared.Index.{Index}
 use Rattle.book_rules.specs.declared.Terms.{Terms}
@@ -22,6 +24,11 @@ starting x d = on x.situations d
 
 abbrev pub standing_index : Site → ℕ → ℕ → Option Index
 standing_index x k d = cond (k == 1) (on x.first d) (cond (k == 2) (on x.second d) None)
+
+-- The indexes of a dial.
+abbrev pub dial_days : Site → Dial → ByDay Index
+dial_days x First = x.first
+dial_days x Second = x.second
 
 -- One situation is put, one index is put; the others stay.
 abbrev pub Starts : Site → Site → ℕ → Option Situation → Type 0
@@ -71,23 +78,33 @@ after z (Correct s d t) f e = corrected d t f e
 after z (Enter s k d v) f e = f e
 after z (Strike s k d) f e = f e
 
-abbrev pub Serves : Site → Site → Call → Type 0
-Serves x y c = (e : ℕ) → starting y e ≡ after (standing_by (starting x) 36) c (starting x) e
+-- What it makes of the indexes.
+abbrev pub indexed_after : Call → (ℕ → ℕ → Option Index) → ℕ → ℕ → Option Index
+indexed_after (Open s d t) f b e = f b e
+indexed_after (Modify s d t) f b e = f b e
+indexed_after (End s d) f b e = f b e
+indexed_after (Correct s d t) f b e = f b e
+indexed_after (Enter s k d v) f b e = cond (k == b && d == e) (Some (record { value = v })) (f b e)
+indexed_after (Strike s k d) f b e = cond (k == b && d == e) None (f b e)
 
--- The day of a call lies in the table.
-abbrev pub day_under : ℕ → Call → Type 0
-day_under n (Open s d t) = d < n
-day_under n (Modify s d t) = d < n
-day_under n (End s d) = d < n
-day_under n (Correct s d t) = d < n
-day_under n (Enter s k d v) = d < n
-day_under n (Strike s k d) = d < n
+pub record Serves (x y : Site) (c : Call) : Type 0 where
+  pub situations : (e : ℕ) → starting y e ≡ after (standing_by (starting x) 36) c (starting x) e
+  pub indexes : (b e : ℕ) → standing_index y b e ≡ indexed_after c (standing_index x) b e
 
--- The last situation starts before day n.
-abbrev pub StartUnder : ℕ → Standing → Type 0
-StartUnder n Never = Unit {0}
-StartUnder n (Running b) = b < n
-StartUnder n (Ended b e) = b < n
+-- An index of that dial, on that day, is kept.
+pub record IsKeptAt (k d : ℕ) : Type 0 where
+  pub least : 1 ≤ k
+  pub most : k ≤ 2
+  pub day : d < 36
+
+-- What a call puts is kept.
+abbrev pub IsKept : Call → Type 0
+IsKept (Open s d t) = d < 36
+IsKept (Modify s d t) = d < 36
+IsKept (End s d) = Unit {0}
+IsKept (Correct s d t) = Unit {0}
+IsKept (Enter s k d v) = IsKeptAt k d
+IsKept (Strike s k d) = IsKeptAt k d
 
 -- A situation covers its start day and all days before its end.
 abbrev pub not_ended : ℕ → Option ℕ → Bool

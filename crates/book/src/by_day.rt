@@ -1,5 +1,5 @@
-// Something on each of the days 0 to 35, or nothing.
-ghost use Rattle.std.specs.Prelude.{◌≡◌, ℕ, ◌<◌, length, replicate, if◌then◌else◌, None, nat_eq, slice_index_or};
+// Something on each of the days 0 to 35, or nothing. Of later days there is nothing, and nothing is put there.
+ghost use Rattle.std.specs.Prelude.{◌≡◌, ℕ, ◌<◌, ◌&&◌, length, replicate, if◌then◌else◌, None, nat_eq, nat_lt, slice_index_or};
 
 #[derive(Drop)]
 pub(crate) struct ByDay<K> {
@@ -15,16 +15,16 @@ impl<K: Copy> ByDay<K> {
     }
 
     pub(crate) fn at(&self, day: u8) -> Option<K>
-        requires { day < 36 }
         ensures { result ≡ slice_index_or self.now.days day None }
     {
-        self.days[day as usize]
+        *self.days.get(usize::from(day))?
     }
 
     pub(crate) fn put(&mut self, day: u8, x: Option<K>)
-        requires { day < 36 }
-        ensures { (e : ℕ) → slice_index_or self.new.days e None ≡ (if nat_eq day e then x else slice_index_or self.old.days e None) }
+        ensures { (e : ℕ) → slice_index_or self.new.days e None ≡ (if nat_eq day e && nat_lt day 36 then x else slice_index_or self.old.days e None) }
     {
-        self.days[day as usize] = x;
+        if day < 36 {
+            self.days[usize::from(day)] = x;
+        }
     }
 }

@@ -13,19 +13,7 @@ impl Book {
     pub fn ruling(&self, call: Call) -> Option<Refusal>
         ensures { Rules (setup self.now) (contents self.now) call (ruled result) }
     {
-        match call {
-            Call::Open { site, day, terms } => self.open_ruling(site, day, terms),
-            Call::Modify { site, day, terms } => self.modify_ruling(site, day, terms),
-            Call::End { site, day } => self.end_ruling(site, day),
-            Call::Correct { site, day, terms } => self.correct_ruling(site, day, terms),
-            Call::Enter {
-                site,
-                dial,
-                day,
-                value,
-            } => self.enter_ruling(site, dial, day, value),
-            Call::Strike { site, dial, day } => self.strike_ruling(site, dial, day),
-        }
+        self.allow(call).err()
     }
 
     // Does a call that is not refused.
@@ -34,18 +22,15 @@ impl Book {
         ensures same { setup self.new ≡ setup self.old }
         ensures acts { Acts (contents self.old) (contents self.new) call }
     {
+        let Some(site) = self.sites.get_mut(usize::from(call.site())) else {
+            return;
+        };
+        site.serve(call);
         match call {
-            Call::Open { site, day, terms } => self.act_open(site, day, terms),
-            Call::Modify { site, day, terms } => self.act_modify(site, day, terms),
-            Call::End { site, day } => self.act_end(site, day),
-            Call::Correct { site, day, terms } => self.act_correct(site, day, terms),
-            Call::Enter {
-                site,
-                dial,
-                day,
-                value,
-            } => self.act_enter(site, dial, day, value),
-            Call::Strike { site, dial, day } => self.act_strike(site, dial, day),
+            Call::Open { .. } | Call::Modify { .. } => self.situations.take(),
+            Call::Enter { .. } => self.indexes.take(),
+            Call::Strike { .. } => self.indexes.give_back(),
+            Call::End { .. } | Call::Correct { .. } => {}
         }
     }
 
@@ -53,12 +38,8 @@ impl Book {
     pub fn make(&mut self, call: Call) -> Result<(), Refusal>
         ensures { Made self.old call result self.new }
     {
-        match self.ruling(call) {
-            Some(refusal) => Err(refusal),
-            None => {
-                self.act(call);
-                Ok(())
-            }
-        }
+        self.allow(call)?;
+        self.act(call);
+        Ok(())
     }
 }

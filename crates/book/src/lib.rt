@@ -3,10 +3,11 @@
 // rules.
 #![tactic(auto)]
 
-mod acts;
 mod by_day;
 pub mod calls;
 pub mod entries;
+mod indexes;
+mod places;
 pub mod questions;
 mod rulings;
 pub mod setting_up;

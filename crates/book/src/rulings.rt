@@ -1,176 +1,103 @@
 // Why a call is refused, if it is: the tests in the order of their numbers, on the unchanged book.
-ghost use Rattle.std.specs.Prelude.{◌≡◌, ◌<◌, not, [], ◌∷◌, IfNone, is_ok, Some, None, vec_len, nat_le};
+ghost use Rattle.std.specs.Prelude.{◌≡◌, not, [], ◌∷◌, is_ok, nat_le};
 ghost use Rattle.profiles.specs.Table.{profile_of};
-ghost use Rattle.book_rules.specs.declared.Call.TheVariants.{Open, Modify, End, Correct, Enter, Strike};
-ghost use Rattle.book_rules.specs.Tests.{first, tests, standing, opened_running, not_served, unfit_day};
-ghost use Rattle.book.specs.Books.{setup, contents, ruled};
+ghost use Rattle.book_rules.specs.Tests.{first, tests, of_terms, beyond, opened_running, not_served, unfit_day};
+ghost use Rattle.book.specs.Books.{setup, contents, answered};
 
 use crate::store::Book;
-use book_rules::{Call, Standing, Terms};
-use profiles::Profile;
+use book_rules::{Call, Standing};
+use profiles::{Dial, Profile};
 use refusals::Refusal;
 
-fn has_profile(terms: Terms) -> bool
-    ensures { result ≡ is_ok (profile_of terms.class terms.power) }
-{
-    Profile::of(terms.class, terms.power).is_ok()
-}
-
 // What speaks against a call in how the site stands.
-fn contradiction(standing: Standing, call: Call) -> Option<Refusal>
-    ensures { ruled result ≡ first ((7, opened_running standing call) ∷ (8, not_served standing call) ∷ (9, unfit_day standing call) ∷ []) }
+fn contradiction(standing: Standing, call: Call) -> Result<(), Refusal>
+    ensures { answered result ≡ first ((7, opened_running standing call) ∷ (8, not_served standing call) ∷ (9, unfit_day standing call) ∷ []) }
 {
     match (standing, call) {
-        (Standing::Running(_), Call::Open { .. }) => Some(Refusal::AlreadyRunning),
-        (Standing::Ended { end, .. }, Call::Open { day, .. }) if day < end => Some(
+        (Standing::Running(_), Call::Open { .. }) => Err(Refusal::AlreadyRunning),
+        (Standing::Ended { end, .. }, Call::Open { day, .. }) if day < end => Err(
             Refusal::DayNotAllowed,
         ),
-        (Standing::Never, Call::Modify { .. }) => Some(Refusal::NotServed),
-        (Standing::Ended { .. }, Call::Modify { .. }) => Some(Refusal::NotServed),
-        (Standing::Running(start), Call::Modify { day, .. }) if day <= start => Some(
+        (Standing::Never | Standing::Ended { .. }, Call::Modify { .. }) => Err(Refusal::NotServed),
+        (Standing::Running(start), Call::Modify { day, .. }) if day <= start => Err(
             Refusal::DayNotAllowed,
         ),
-        (Standing::Never, Call::End { .. }) => Some(Refusal::NotServed),
-        (Standing::Running(start), Call::End { day, .. }) if day <= start => Some(
+        (Standing::Never, Call::End { .. }) => Err(Refusal::NotServed),
+        (Standing::Running(start), Call::End { day, .. }) if day <= start => Err(
             Refusal::DayNotAllowed,
         ),
         (Standing::Ended { start, end }, Call::End { day, .. }) if day <= start || day >= end =>
-            Some(Refusal::DayNotAllowed),
-        _ => None,
+            Err(Refusal::DayNotAllowed),
+        _ => Ok(()),
     }
 }
 
 impl Book {
-    // How a site of the book stands.
-    pub(crate) fn standing_at(&self, site: u16) -> Standing
-        requires { site < vec_len self.now.sites }
-        ensures { result ≡ standing 36 (contents self.now) site }
+    // What is asked of the day of every call, and of the terms of a call that has terms.
+    fn allow_terms(&self, call: Call) -> Result<(), Refusal>
+        ensures { answered result ≡ first ((4, of_terms (λ t. nat_le self.now.parties t.party) call) ∷ (5, beyond (setup self.now) call) ∷ (6, of_terms (λ t. not (is_ok (profile_of t.class t.power))) call) ∷ []) }
     {
-        self.sites[site as usize].standing()
+        match call {
+            Call::Open { day, terms, .. }
+            | Call::Modify { day, terms, .. }
+            | Call::Correct { day, terms, .. } => {
+                if terms.party >= self.parties {
+                    return Err(Refusal::UnknownParty);
+                }
+                if day >= self.days {
+                    return Err(Refusal::DayOutOfRange);
+                }
+                Profile::of(terms.class, terms.power)?;
+            }
+            Call::End { day, .. } | Call::Enter { day, .. } | Call::Strike { day, .. } => {
+                if day > self.days {
+                    return Err(Refusal::DayOutOfRange);
+                }
+            }
+        }
+        Ok(())
     }
 
-    // What is asked of site, party, day, class and power alike by every call that has terms.
-    fn terms_ruling(&self, site: u16, day: u8, terms: Terms) -> Option<Refusal>
-        ensures value { ruled result ≡ first ((3, nat_le (vec_len self.now.sites) site) ∷ (4, nat_le self.now.parties terms.party) ∷ (5, nat_le self.now.days day) ∷ (6, not (is_ok (profile_of terms.class terms.power))) ∷ []) }
-        ensures known { IfNone result ((site < vec_len self.now.sites) × (day < self.now.days)) }
+    // The first test of a call that holds refuses it.
+    pub(crate) fn allow(&self, call: Call) -> Result<(), Refusal>
+        ensures { answered result ≡ first (tests 36 (setup self.now) (contents self.now) call) }
     {
-        if site as usize >= self.sites.len() {
-            return Some(Refusal::UnknownSite);
+        let site = self.site(call.site()).ok_or(Refusal::UnknownSite)?;
+        self.allow_terms(call)?;
+        contradiction(site.standing(), call)?;
+        match call {
+            Call::Correct { day, .. } if site.situations.at(day).is_none() => Err(
+                Refusal::NoSituation,
+            ),
+            Call::Open { .. } | Call::Modify { .. } if self.situations.are_full() => Err(
+                Refusal::SituationsFull,
+            ),
+            Call::Enter {
+                dial,
+                day,
+                value,
+                ..
+            } => {
+                let indexes = site.dial(Dial::try_from(dial)?);
+                if value > 999_999_999 {
+                    return Err(Refusal::IndexTooLarge);
+                }
+                if indexes.at(day).is_some() {
+                    return Err(Refusal::IndexAlreadyStands);
+                }
+                if indexes.speak_against(day, value) {
+                    return Err(Refusal::IndexOutOfOrder);
+                }
+                if self.indexes.are_full() {
+                    return Err(Refusal::IndexesFull);
+                }
+                Ok(())
+            }
+            Call::Strike { dial, day, .. } => match site.dial(Dial::try_from(dial)?).at(day) {
+                Some(_) => Ok(()),
+                None => Err(Refusal::NoIndex),
+            },
+            _ => Ok(()),
         }
-        if terms.party >= self.parties {
-            return Some(Refusal::UnknownParty);
-        }
-        if day >= self.days {
-            return Some(Refusal::DayOutOfRange);
-        }
-        if !has_profile(terms) {
-            return Some(Refusal::NoSuchProfile);
-        }
-        None
-    }
-
-    pub(crate) fn open_ruling(&self, site: u16, day: u8, terms: Terms) -> Option<Refusal>
-        ensures { ruled result ≡ first (tests 36 (setup self.now) (contents self.now) (Open site day terms)) }
-    {
-        if let Some(refusal) = self.terms_ruling(site, day, terms) {
-            return Some(refusal);
-        }
-        if let Some(refusal) = contradiction(
-            self.standing_at(site),
-            Call::Open { site, day, terms },
-        ) {
-            return Some(refusal);
-        }
-        if self.situation_count >= self.situation_places {
-            return Some(Refusal::SituationsFull);
-        }
-        None
-    }
-
-    pub(crate) fn modify_ruling(&self, site: u16, day: u8, terms: Terms) -> Option<Refusal>
-        ensures { ruled result ≡ first (tests 36 (setup self.now) (contents self.now) (Modify site day terms)) }
-    {
-        if let Some(refusal) = self.terms_ruling(site, day, terms) {
-            return Some(refusal);
-        }
-        if let Some(refusal) = contradiction(
-            self.standing_at(site),
-            Call::Modify { site, day, terms },
-        ) {
-            return Some(refusal);
-        }
-        if self.situation_count >= self.situation_places {
-            return Some(Refusal::SituationsFull);
-        }
-        None
-    }
-
-    pub(crate) fn end_ruling(&self, site: u16, day: u8) -> Option<Refusal>
-        ensures { ruled result ≡ first (tests 36 (setup self.now) (contents self.now) (End site day)) }
-    {
-        if site as usize >= self.sites.len() {
-            return Some(Refusal::UnknownSite);
-        }
-        if day > self.days {
-            return Some(Refusal::DayOutOfRange);
-        }
-        contradiction(self.standing_at(site), Call::End { site, day })
-    }
-
-    pub(crate) fn correct_ruling(&self, site: u16, day: u8, terms: Terms) -> Option<Refusal>
-        ensures { ruled result ≡ first (tests 36 (setup self.now) (contents self.now) (Correct site day terms)) }
-    {
-        if let Some(refusal) = self.terms_ruling(site, day, terms) {
-            return Some(refusal);
-        }
-        if self.sites[site as usize].situations.at(day).is_none() {
-            return Some(Refusal::NoSituation);
-        }
-        None
-    }
-
-    pub(crate) fn enter_ruling(&self, site: u16, dial: u8, day: u8, value: u32) -> Option<Refusal>
-        ensures { ruled result ≡ first (tests 36 (setup self.now) (contents self.now) (Enter site dial day value)) }
-    {
-        if site as usize >= self.sites.len() {
-            return Some(Refusal::UnknownSite);
-        }
-        if day > self.days {
-            return Some(Refusal::DayOutOfRange);
-        }
-        if dial < 1 || dial > 2 {
-            return Some(Refusal::UnknownDial);
-        }
-        if value > 999_999_999 {
-            return Some(Refusal::IndexTooLarge);
-        }
-        if self.sites[site as usize].index(dial, day).is_some() {
-            return Some(Refusal::IndexAlreadyStands);
-        }
-        if self.sites[site as usize].is_out_of_order(dial, day, value) {
-            return Some(Refusal::IndexOutOfOrder);
-        }
-        if self.index_count >= self.index_places {
-            return Some(Refusal::IndexesFull);
-        }
-        None
-    }
-
-    pub(crate) fn strike_ruling(&self, site: u16, dial: u8, day: u8) -> Option<Refusal>
-        ensures { ruled result ≡ first (tests 36 (setup self.now) (contents self.now) (Strike site dial day)) }
-    {
-        if site as usize >= self.sites.len() {
-            return Some(Refusal::UnknownSite);
-        }
-        if day > self.days {
-            return Some(Refusal::DayOutOfRange);
-        }
-        if dial < 1 || dial > 2 {
-            return Some(Refusal::UnknownDial);
-        }
-        if self.sites[site as usize].index(dial, day).is_none() {
-            return Some(Refusal::NoIndex);
-        }
-        None
     }
 }

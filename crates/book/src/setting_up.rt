@@ -2,6 +2,7 @@
 ghost use Rattle.std.specs.Prelude.{◌≡◌, IfOk, vec_len};
 ghost use Rattle.book.specs.Books.{within_bounds, SetUpAnswer, AllEmpty};
 
+use crate::places::Places;
 use crate::site::Site;
 use crate::store::Book;
 use book_rules::{SetUp, SetUpError};
@@ -12,20 +13,17 @@ use std::alloc::{AllocError, Global};
 fn is_within_bounds(set_up: SetUp) -> bool
     ensures { result ≡ within_bounds set_up }
 {
-    set_up.days >= 1
-        && set_up.days <= 35
-        && set_up.first as u64 + set_up.days as u64 <= 36_159
-        && set_up.parties >= 1
-        && set_up.parties <= 16
-        && set_up.sites >= 1
-        && set_up.sites <= 256
+    (1..=35).contains(&set_up.days)
+        && u64::from(set_up.first) + u64::from(set_up.days) <= 36_159
+        && (1..=16).contains(&set_up.parties)
+        && (1..=256).contains(&set_up.sites)
 }
 
 // So many sites that keep nothing.
 fn empty_sites(heap: Global, count: u16) -> Result<Vec<Site>, AllocError>
     ensures { IfOk result (λ v. (vec_len v ≡ count) × AllEmpty v.items) }
 {
-    let mut sites = Vec::with_capacity(heap, count as usize)?;
+    let mut sites = Vec::with_capacity(heap, usize::from(count))?;
     for _ in 0..count {
         sites.push(Site::new())?;
     }
@@ -37,17 +35,15 @@ impl Book {
         ensures { SetUpAnswer set_up result }
     {
         if !is_within_bounds(set_up) {
-            return Err(SetUpError::Refused(Refusal::SetupOutOfBounds));
+            return Err(Refusal::SetupOutOfBounds.into());
         }
         let sites = empty_sites(heap, set_up.sites)?;
         Ok(Book {
             sites,
             parties: set_up.parties,
             days: set_up.days,
-            situation_places: set_up.situation_places.min(1_024),
-            index_places: set_up.index_places.min(8_192),
-            situation_count: 0,
-            index_count: 0,
+            situations: Places::new(set_up.situation_places.min(1_024)),
+            indexes: Places::new(set_up.index_places.min(8_192)),
         })
     }
 }

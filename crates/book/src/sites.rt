@@ -1,32 +1,22 @@
-// What is read off a site and what is put into it. The caller has ruled on the call; nothing here refuses.
-ghost use Rattle.std.specs.Prelude.{◌≡◌, ℕ, ◌<◌, ◌≤◌, true, Some, None};
-ghost use Rattle.book_rules.specs.Tests.{standing_on, standing_by, against, crossed};
-ghost use Rattle.book.specs.Sites.{starting, standing_index, NoEntries, StandsAt, SameStarts, SameIndexesOf, day_under, closed, corrected, after, Closes, Serves, StartUnder};
+// What is read off a site and what is put into it. The book has ruled on the call; nothing here refuses.
+ghost use Rattle.std.specs.Prelude.{◌≡◌, ℕ, ◌<◌, Some, None};
+ghost use Rattle.book_rules.specs.Telling.{begun};
+ghost use Rattle.book_rules.specs.Tests.{standing_on, standing_by};
+ghost use Rattle.book.specs.Sites.{starting, NoEntries, Starts, StandsAt, SameStarts, SameIndexesOf, corrected, Closes, Serves, IsKept, IsKeptAt, dial_days};
 
 use crate::by_day::ByDay;
 use crate::site::Site;
 use book_rules::{Call, Index, Situation, Standing, Terms};
+use profiles::Dial;
 
 // How a site stands once a situation that starts on day b is looked at.
 fn stands_on(standing: Standing, b: u8, situation: Option<Situation>) -> Standing
-    requires { (b < 36) × (StartUnder 36 standing) }
-    ensures value { result ≡ standing_on standing b situation }
-    ensures under { StartUnder 36 result }
+    ensures { result ≡ standing_on standing b situation }
 {
     match situation {
         None => standing,
         Some(Situation { end: None, .. }) => Standing::Running(b),
         Some(Situation { end: Some(end), .. }) => Standing::Ended { start: b, end },
-    }
-}
-
-// Whether the index of day e contradicts a value on another day.
-fn contradicts(day: u8, value: u32, e: u8, index: Option<Index>) -> bool
-    ensures { result ≡ against day value e index }
-{
-    match index {
-        None => false,
-        Some(index) => e < day && value < index.value || day < e && index.value < value,
     }
 }
 
@@ -42,104 +32,91 @@ impl Site {
     }
 
     pub(crate) fn standing(&self) -> Standing
-        ensures value { result ≡ standing_by (starting self.now) 36 }
-        ensures under { StartUnder 36 result }
+        ensures { result ≡ standing_by (starting self.now) 36 }
     {
-        let mut standing = Standing::Never;
-        for b in 0..36u8 {
-            standing = stands_on(standing, b, self.situations.at(b));
-        }
-        standing
+        (0..36u8).fold(Standing::Never, |standing, b| {
+            stands_on(standing, b, self.situations.at(b))
+        })
     }
 
-    pub(crate) fn index(&self, dial: u8, day: u8) -> Option<Index>
-        requires { day < 36 }
-        ensures { result ≡ standing_index self.now dial day }
+    // The indexes of a dial.
+    pub(crate) fn dial(&self, dial: Dial) -> &ByDay<Index>
+        ensures { result.now ≡ dial_days self.now dial }
     {
         match dial {
-            1 => self.first.at(day),
-            2 => self.second.at(day),
-            _ => None,
+            Dial::First => &self.first,
+            Dial::Second => &self.second,
         }
     }
 
-    // Whether a value lies below an earlier or above a later index of the dial.
-    pub(crate) fn is_out_of_order(&self, dial: u8, day: u8, value: u32) -> bool
-        ensures { result ≡ crossed (standing_index self.now dial) day value 36 }
-    {
-        let mut found = false;
-        for e in 0..36u8 {
-            if contradicts(day, value, e, self.index(dial, e)) {
-                found = true;
-            }
-        }
-        found
-    }
-
-    pub(crate) fn put_index(&mut self, dial: u8, day: u8, index: Option<Index>)
-        requires { (day < 36) × ((1 ≤ dial) × (dial ≤ 2)) }
-        ensures put { StandsAt self.old self.new dial day index }
+    // Puts an index of a dial on a day, or takes it off; of another dial than the two none is put.
+    fn put_index(&mut self, dial: u8, day: u8, index: Option<Index>)
+        ensures put { IsKeptAt dial day → StandsAt self.old self.new dial day index }
         ensures same { SameStarts self.old self.new }
     {
-        if dial == 1 {
-            self.first.put(day, index);
-        } else {
-            self.second.put(day, index);
+        match Dial::try_from(dial) {
+            Ok(Dial::First) => self.first.put(day, index),
+            Ok(Dial::Second) => self.second.put(day, index),
+            Err(_) => {}
         }
+    }
+
+    // A situation starts.
+    fn begin(&mut self, day: u8, terms: Terms)
+        ensures put { day < 36 → Starts self.old self.new day (Some (begun terms)) }
+        ensures same { SameIndexesOf self.old self.new }
+    {
+        self.situations
+            .put(day, Some(Situation { end: None, terms }));
     }
 
     // The situation that starts on a day ends on another.
     fn close(&mut self, start: u8, day: u8)
-        requires { start < 36 }
         ensures put { Closes self.old self.new start day }
         ensures same { SameIndexesOf self.old self.new }
     {
-        if let Some(situation) = self.situations.at(start) {
-            self.situations.put(
-                start,
-                Some(Situation {
-                    end: Some(day),
-                    terms: situation.terms,
-                }),
-            );
-        }
+        let ended = self.situations.at(start).map(|situation| Situation {
+            end: Some(day),
+            ..situation
+        });
+        self.situations.put(start, ended);
     }
 
     // The situation that starts on a day gets new terms.
     fn correct(&mut self, day: u8, terms: Terms)
-        requires { day < 36 }
         ensures put { (e : ℕ) → starting self.new e ≡ corrected day terms (starting self.old) e }
         ensures same { SameIndexesOf self.old self.new }
     {
-        if let Some(situation) = self.situations.at(day) {
-            self.situations.put(
-                day,
-                Some(Situation {
-                    end: situation.end,
-                    terms,
-                }),
-            );
-        }
+        let corrected = self
+            .situations
+            .at(day)
+            .map(|situation| Situation { terms, ..situation });
+        self.situations.put(day, corrected);
     }
 
-    // Does what a call does that depends on how the site stands, in place.
+    // Does what a call does, by how the site stands, in place.
     pub(crate) fn serve(&mut self, call: Call)
-        requires { day_under 36 call }
-        ensures put { Serves self.old self.new call }
-        ensures same { SameIndexesOf self.old self.new }
+        ensures { IsKept call → Serves self.old self.new call }
     {
         match (self.standing(), call) {
-            (_, Call::Open { day, terms, .. }) => self
-                .situations
-                .put(day, Some(Situation { end: None, terms })),
+            (_, Call::Open { day, terms, .. }) => self.begin(day, terms),
             (Standing::Running(start), Call::Modify { day, terms, .. }) => {
                 self.close(start, day);
-                self.situations
-                    .put(day, Some(Situation { end: None, terms }));
+                self.begin(day, terms);
             }
-            (Standing::Running(start), Call::End { day, .. }) => self.close(start, day),
-            (Standing::Ended { start, .. }, Call::End { day, .. }) => self.close(start, day),
+            (Standing::Running(start) | Standing::Ended { start, .. }, Call::End { day, .. }) =>
+                self.close(start, day),
             (_, Call::Correct { day, terms, .. }) => self.correct(day, terms),
+            (
+                _,
+                Call::Enter {
+                    dial,
+                    day,
+                    value,
+                    ..
+                },
+            ) => self.put_index(dial, day, Some(Index { value })),
+            (_, Call::Strike { dial, day, .. }) => self.put_index(dial, day, None),
             _ => {}
         }
     }

@@ -4,11 +4,12 @@
 #![tactic(auto)]
 
 ghost use Rattle.std.specs.Prelude.{◌≡◌};
-ghost use Rattle.book_rules.specs.declared.SetUpError.TheVariants.{OutOfMemory};
+ghost use Rattle.book_rules.specs.declared.SetUpError.TheVariants.{Refused, OutOfMemory};
+ghost use Rattle.book_rules.specs.Refusing.{site_of};
 ghost use Rattle.book_rules.specs.Laws.{TellsOne, AlwaysOrderly, TestsRule};
 
 use refusals::Refusal;
-use std::alloc::AllocError;
+use std::alloc::{AllocError, AllocFailed};
 
 // The terms on which a site is served: the balance party on whose account, the class (metering configuration) and the
 // subscribed power in kVA.
@@ -76,6 +77,22 @@ pub enum Call {
     },
 }
 
+impl Call {
+    // The site that is called for.
+    pub fn site(self) -> u16
+        ensures { result ≡ site_of self }
+    {
+        match self {
+            Call::Open { site, .. }
+            | Call::Modify { site, .. }
+            | Call::End { site, .. }
+            | Call::Correct { site, .. }
+            | Call::Enter { site, .. }
+            | Call::Strike { site, .. } => site,
+        }
+    }
+}
+
 // What a book is set up with: the date of its first day, how many days, balance parties and sites, and the places for
 // situations and indexes.
 #[derive(Clone, Copy, PartialEq, Eq, Debug)]
@@ -95,11 +112,27 @@ pub enum SetUpError {
     OutOfMemory,
 }
 
+impl From<Refusal> for SetUpError {
+    ghost from_gives = { λ e r. r ≡ Refused e };
+
+    fn from(refusal: Refusal) -> SetUpError {
+        SetUpError::Refused(refusal)
+    }
+}
+
 impl From<AllocError> for SetUpError {
     ghost from_gives = { λ e r. r ≡ OutOfMemory };
 
     fn from(_: AllocError) -> SetUpError {
         SetUpError::OutOfMemory
+    }
+}
+
+impl<T: Drop> From<AllocFailed<T>> for SetUpError {
+    ghost from_gives = { λ e r. r ≡ OutOfMemory };
+
+    fn from(failed: AllocFailed<T>) -> SetUpError {
+        SetUpError::from(AllocError::from(failed))
     }
 }
 

@@ -1,7 +1,9 @@
 -- The table of load profiles: class and subscribed power decide the profile, profile and dial the sub-profile.
 use Rattle.std.specs.Prelude.{◌≡◌, ℕ, ◌≤◌, Bool, cond, ◌&&◌, Some, None, Ok, Err, Option, Result, ◌==◌, nat_le}
 use Rattle.refusals.specs.declared.Refusal.{Refusal}
-use Rattle.refusals.specs.declared.Refusal.TheVariants.{NoSuchProfile}
+use Rattle.refusals.specs.declared.Refusal.TheVariants.{NoSuchProfile, UnknownDial}
+use Rattle.profiles.specs.declared.Dial.{Dial}
+use Rattle.profiles.specs.declared.Dial.TheVariants.{First, Second}
 use Rattle.profiles.specs.declared.Profile.{Profile}
 use Rattle.profiles.specs.declared.Profile.TheVariants.{Res1, Res11, Res1We, Res11We, Res2}
 
@@ -18,6 +20,10 @@ profile_of class kva =
     (cond (class == 2 && between 7 kva 36) (Ok Res11We)
     (cond (class == 3 && between 1 kva 36) (Ok Res2)
     (Err NoSuchProfile)))))
+
+-- The dial of a number: 1 is the first, 2 the second, and any other number is refused.
+abbrev pub dial_of : ℕ → Result Dial Refusal
+dial_of n = cond (n == 1) (Ok First) (cond (n == 2) (Ok Second) (Err UnknownDial))
 
 -- What dial 1 and dial 2 have; there is no other dial.
 abbrev pub dials : Option ℕ → Option ℕ → ℕ → Option ℕ

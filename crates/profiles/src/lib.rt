@@ -2,7 +2,7 @@
 #![tactic(auto)]
 
 ghost use Rattle.std.specs.Prelude.{◌≡◌};
-ghost use Rattle.profiles.specs.Table.{profile_of, sub_profile_of, SubProfilesApart};
+ghost use Rattle.profiles.specs.Table.{profile_of, dial_of, sub_profile_of, SubProfilesApart};
 
 use refusals::Refusal;
 
@@ -14,6 +14,27 @@ pub enum Profile {
     Res1We,
     Res11We,
     Res2,
+}
+
+// A dial: a register of the meter. The calls take its number, 1 or 2.
+#[derive(Clone, Copy, PartialEq, Eq, Debug)]
+pub enum Dial {
+    First,
+    Second,
+}
+
+impl TryFrom<u8> for Dial {
+    type Error = Refusal;
+
+    ghost try_from_gives = { λ n r. r ≡ dial_of n };
+
+    fn try_from(number: u8) -> Result<Dial, Refusal> {
+        match number {
+            1 => Ok(Dial::First),
+            2 => Ok(Dial::Second),
+            _ => Err(Refusal::UnknownDial),
+        }
+    }
 }
 
 // By profile, the sub-profiles of dial 1 and dial 2: 0 to 7, or none where the profile lacks that dial.
@@ -31,11 +52,11 @@ impl Profile {
         ensures { result ≡ profile_of class kva }
     {
         match class {
-            1 if kva >= 1 && kva <= 6 => Ok(Profile::Res1),
-            1 if kva >= 7 && kva <= 36 => Ok(Profile::Res11),
-            2 if kva >= 1 && kva <= 6 => Ok(Profile::Res1We),
-            2 if kva >= 7 && kva <= 36 => Ok(Profile::Res11We),
-            3 if kva >= 1 && kva <= 36 => Ok(Profile::Res2),
+            1 if (1..=6).contains(&kva) => Ok(Profile::Res1),
+            1 if (7..=36).contains(&kva) => Ok(Profile::Res11),
+            2 if (1..=6).contains(&kva) => Ok(Profile::Res1We),
+            2 if (7..=36).contains(&kva) => Ok(Profile::Res11We),
+            3 if (1..=36).contains(&kva) => Ok(Profile::Res2),
             _ => Err(Refusal::NoSuchProfile),
         }
     }
@@ -44,10 +65,8 @@ impl Profile {
     pub fn sub_profile(self, dial: u8) -> Option<u8>
         ensures { result ≡ sub_profile_of self dial }
     {
-        if dial < 1 || dial > 2 {
-            return None;
-        }
-        SUB_PROFILES[self as usize][(dial - 1) as usize]
+        let dial = Dial::try_from(dial).ok()?;
+        SUB_PROFILES[self as usize][dial as usize]
     }
 }
 

@@ -1,5 +1,6 @@
 -- The number of each refusal, with its condition. Contracts speak of a refusal through this definition.
-use Rattle.std.specs.Prelude.{◌≡◌, ℕ, ◌≤◌}
+use Rattle.std.specs.Prelude.{◌≡◌, ℕ, ◌≤◌, List, ◌++◌, codes}
+use Rattle.std.specs.Fmt.{decimal}
 use Rattle.refusals.specs.declared.Refusal.{Refusal}
 use Rattle.refusals.specs.declared.Refusal.TheVariants.{SetupOutOfBounds, BufferTooShort, UnknownSite, UnknownParty, DayOutOfRange, NoSuchProfile, AlreadyRunning, NotServed, DayNotAllowed, NoSituation, SituationsFull, UnknownDial, IndexTooLarge, IndexAlreadyStands, IndexOutOfOrder, IndexesFull, NoIndex, CoverageDiffers, ValueOutOfBounds, MarksDiffer, TableNotAsMarked, FileEndsInsideRecord, UnknownLetter}
 
@@ -55,3 +56,7 @@ number_of UnknownLetter = 23
 pub record Numbered : Type 0 where
   pub once : (a b : Refusal) → number_of a ≡ number_of b → a ≡ b
   pub bounded : (a : Refusal) → (1 ≤ number_of a) × (number_of a ≤ 23)
+
+-- What a refusal prints.
+abbrev pub text_of : Refusal → List ℕ
+text_of r = codes "refused with " ++ decimal (number_of r)

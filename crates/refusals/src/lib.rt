@@ -2,34 +2,37 @@
 // the one with the lowest number answers. docs/refusals.md has the list with its conditions.
 #![tactic(auto)]
 
-ghost use Rattle.std.specs.Prelude.{◌≡◌};
-ghost use Rattle.refusals.specs.Numbers.{number_of, Numbered};
+ghost use Rattle.std.specs.Prelude.{◌≡◌, Some};
+ghost use Rattle.refusals.specs.Numbers.{number_of, Numbered, text_of};
+
+use std::error::Error;
+use std::fmt;
 
 #[derive(Clone, Copy, PartialEq, Eq, Debug)]
 pub enum Refusal {
-    SetupOutOfBounds,
-    BufferTooShort,
-    UnknownSite,
-    UnknownParty,
-    DayOutOfRange,
-    NoSuchProfile,
-    AlreadyRunning,
-    NotServed,
-    DayNotAllowed,
-    NoSituation,
-    SituationsFull,
-    UnknownDial,
-    IndexTooLarge,
-    IndexAlreadyStands,
-    IndexOutOfOrder,
-    IndexesFull,
-    NoIndex,
-    CoverageDiffers,
-    ValueOutOfBounds,
-    MarksDiffer,
-    TableNotAsMarked,
-    FileEndsInsideRecord,
-    UnknownLetter,
+    SetupOutOfBounds = 1,
+    BufferTooShort = 2,
+    UnknownSite = 3,
+    UnknownParty = 4,
+    DayOutOfRange = 5,
+    NoSuchProfile = 6,
+    AlreadyRunning = 7,
+    NotServed = 8,
+    DayNotAllowed = 9,
+    NoSituation = 10,
+    SituationsFull = 11,
+    UnknownDial = 12,
+    IndexTooLarge = 13,
+    IndexAlreadyStands = 14,
+    IndexOutOfOrder = 15,
+    IndexesFull = 16,
+    NoIndex = 17,
+    CoverageDiffers = 18,
+    ValueOutOfBounds = 19,
+    MarksDiffer = 20,
+    TableNotAsMarked = 21,
+    FileEndsInsideRecord = 22,
+    UnknownLetter = 23,
 }
 
 impl Refusal {
@@ -37,33 +40,21 @@ impl Refusal {
     pub fn number(self) -> u8
         ensures { result ≡ number_of self }
     {
-        match self {
-            Refusal::SetupOutOfBounds => 1,
-            Refusal::BufferTooShort => 2,
-            Refusal::UnknownSite => 3,
-            Refusal::UnknownParty => 4,
-            Refusal::DayOutOfRange => 5,
-            Refusal::NoSuchProfile => 6,
-            Refusal::AlreadyRunning => 7,
-            Refusal::NotServed => 8,
-            Refusal::DayNotAllowed => 9,
-            Refusal::NoSituation => 10,
-            Refusal::SituationsFull => 11,
-            Refusal::UnknownDial => 12,
-            Refusal::IndexTooLarge => 13,
-            Refusal::IndexAlreadyStands => 14,
-            Refusal::IndexOutOfOrder => 15,
-            Refusal::IndexesFull => 16,
-            Refusal::NoIndex => 17,
-            Refusal::CoverageDiffers => 18,
-            Refusal::ValueOutOfBounds => 19,
-            Refusal::MarksDiffer => 20,
-            Refusal::TableNotAsMarked => 21,
-            Refusal::FileEndsInsideRecord => 22,
-            Refusal::UnknownLetter => 23,
-        }
+        self as u8
     }
 }
+
+// `refused with` and the number.
+impl fmt::Display for Refusal {
+    ghost output = { λ r. Some (text_of r) };
+
+    fn fmt<W: fmt::Write>(&self, f: &mut fmt::Formatter<W>) -> fmt::Result {
+        let number = self.number();
+        write!(f, "refused with {number}")
+    }
+}
+
+impl Error for Refusal {}
 
 // A number names one refusal only, and all numbers lie between 1 and 23.
 pub fn numbers_tell_refusals_apart()

@@ -22,10 +22,7 @@ pub fn replayed(heap: Global, set_up: SetUp, calls: &[Call]) -> Result<ReplayedB
     let mut book = Book::new(heap, set_up)?;
     let mut answers = Vec::with_capacity(heap, calls.len())?;
     for call in calls {
-        match answers.push(book.make(*call)) {
-            Ok(()) => {}
-            Err(_) => return Err(SetUpError::OutOfMemory),
-        }
+        answers.push(book.make(*call))?;
     }
     Ok(ReplayedBook { book, answers })
 }

@@ -20,7 +20,7 @@ loop-call-preserved c =
       c.make.ensures.same ∙ c.loop-call.invariant.0,
       λ t.
           one_call (setup c.in_ok-book.book) (take i calls) _ (vec_items c.loop-call.answers) _ _ c.make.result c.loop-call.book c.make.new.self c.loop-call.invariant.0 c.make.ensures
-          (take_more calls i _ c.loop-call-test.true) c.in-Ok.ensures.items (c.loop-call.invariant.1 t),
+          (take_more calls i _ c.loop-call-test.true) c.in_ok-push.ensures.items (c.loop-call.invariant.1 t),
     )
 
 pub returns : goal.returns

@@ -1,20 +1,14 @@
-use Rattle.std.proofs.Common.{sym, ap, ◌∙◌, arith}
+use Rattle.std.proofs.Common.{◌≡◌, ℕ, ◌<◌, Some, None, rules}
+use Rattle.std.proofs.iter.runs.Sources.{ranges, range_listed}
+use Rattle.book_rules.specs.declared.Service.{Service}
 use Rattle.book.specs.Sites.{starting, service_of}
 use Rattle.book.proofs.Storage.{past}
-use Rattle.book.proofs.Services.{found, missed, one_more}
+use Rattle.book.proofs.Services.{serving}
 use Rattle.book.proofs.site.Site.service.Goals as goal
-
-pub loop-start-preserved : goal.loop-start-preserved
-loop-start-preserved c =
-    one_more (starting c.args.self.now) c.loop-start.start c.args.day c.loop-start.invariant
-    (ap (λ o. service_of c.loop-start.start o c.args.day) (sym c.at.ensures) ∙ (sym c.service_on.ensures ∙ c.in_default.is))
-
-pub returns-in-Some : goal.returns-in-Some
-returns-in-Some c =
-    found (starting c.args.self.now) c.loop-start.start c.args.day c.in-Some.service
-    (c.in-Some.ensures ∙ ap (λ o. service_of c.loop-start.start o c.args.day) c.at.ensures)
 
 pub returns : goal.returns
 returns c =
-    missed (starting c.args.self.now) 36 c.args.day (past c.args.self.now.situations)
-    (λ b lt. c.loop-start.invariant b (omega (arith, lt, c.loop-start-test.false)))
+    let f = starting c.args.self.now in let d = c.args.day in let run = c.find_map.ensures.runs in let days = range_listed run.0 run.0.seen in
+    let missed : c.find_map.result ≡ None → (b : ℕ) → b < 36 → service_of b (f b) d ≡ None = λ e b lt. let turn = days.4.3 b in search (rules, ranges, turn, run) in
+    let found : (v : Service) → c.find_map.result ≡ Some v → (b : ℕ) × (Some v ≡ service_of b (f b) d) = λ v e. search (rules, ranges) in
+    serving f 36 d (past c.args.self.now.situations) c.find_map.result missed found

@@ -1,18 +1,14 @@
-use Rattle.std.proofs.Common.{◌≡◌, sym, ap, ◌∙◌, arith}
-use Rattle.book_rules.specs.Tests.{standing_by, standing_on}
-use Rattle.book_rules.proofs.Standings.{standing_none, standing_more}
+use Rattle.std.proofs.Common.{refl, ◌∙◌, rules, tests}
+use Rattle.std.proofs.lemmas.Iterator.{YieldsList-from_range}
+use Rattle.std.proofs.lemmas.Iterator.Consumers.{fold_from_yields_List}
+use Rattle.book_rules.specs.Tests.{standing_on, standing_by}
 use Rattle.book.specs.Sites.{starting}
+use Rattle.book.proofs.Counted.{fold_days}
 use Rattle.book.proofs.site.Site.standing.Goals as goal
 
-pub loop-b-init : goal.loop-b-init
-loop-b-init c = (sym (standing_none _), tt)
-
-pub loop-b-preserved : goal.loop-b-preserved
-loop-b-preserved c =
-    let i = c.loop-b.b in let f = starting c.args.self.now in (
-      c.stands_on-standing.ensures.value ∙ (ap (λ o. standing_on c.loop-b.standing i o) c.at.ensures ∙ (ap (λ t. standing_on t i (f i)) c.loop-b.invariant.0 ∙ sym (standing_more f i))),
-      c.stands_on-standing.ensures.under,
-    )
-
 pub returns : goal.returns
-returns c = let end : c.loop-b.b ≡ 36 = omega arith in record { value = c.loop-b.invariant.0 ∙ ap (standing_by (starting c.args.self.now)) end; under = c.loop-b.invariant.1 }
+unfolding standing_by
+returns c =
+    let f = starting c.args.self.now in
+    fold_from_yields_List _ (λ t b. standing_on t b (f b)) _ _ c.fold.ensures.ran (YieldsList-from_range 0 36 36 (cc) refl) (λ t b r q k. search (rules, tests))
+    ∙ fold_days (standing_by f) (λ t b. standing_on t b (f b)) (λ n. refl) 36

@@ -1,67 +1,37 @@
-use Rattle.std.proofs.Common.{ℕ, ◌<◌, ◌≤◌, ltb, None, vec_items, subst, arith}
-use Rattle.std.proofs.lemmas.Bool.{leb-false, ltb-false, or_parts}
-use Rattle.book_rules.specs.declared.Call.{Call}
-use Rattle.book_rules.specs.declared.Call.TheVariants.{Open, Modify, End, Correct, Enter, Strike}
-use Rattle.book_rules.specs.Refusing.{Rules, Applies}
-use Rattle.book_rules.specs.Tests.{tests}
-use Rattle.book_rules.proofs.Rulings.{sound}
-use Rattle.book_rules.proofs.Upper.{Failed, failed}
-use Rattle.book.specs.declared.store.Book.{Book}
-use Rattle.book.specs.Books.{setup, contents}
-use Rattle.book.proofs.Storage.{within}
+use Rattle.std.proofs.Common.{◌≡◌, sym, refl, arith, rules, ◌∙◌}
+use Rattle.book.proofs.Acting.{situations_after, indexes_after}
+use Rattle.book.proofs.Ruled.{allowed, acting}
 use Rattle.book.proofs.store.Book.act.Goals as goal
 
--- of a call that is not refused every test fails
-none_holds : (b : Book) (k : Call) → Rules (setup b) (contents b) k None → Failed (tests 36 (setup b) (contents b) k)
-none_holds b k = failed (Applies (setup b) (contents b) k) (tests 36 (setup b) (contents b) k) (sound 36 (setup b) (contents b) (within (vec_items b.sites) b.situation_count b.index_count) k)
+pub returns-in_default-clause-acts : goal.returns-in_default-clause-acts
+returns-in_default-clause-acts c =
+    let a = (allowed c.args.self.now c.args.call c.requires).known in let w = c.in_default.ensures.variant in
+    absurd (search rules)
 
--- a day of the horizon, and one of those that indexes and endings have
-day_of : (b : Book) (d : ℕ) → d < b.days → d < 36
-day_of b d h = omega (arith, b.horizon)
+pub returns-in-Open-clause-acts : goal.returns-in-Open-clause-acts
+returns-in-Open-clause-acts c =
+    let b = c.args.self.now in let k = c.args.call in let a = allowed b k c.requires in
+    let i : c.take.new.self.taken ≡ situations_after k b.situations.taken = grind arith in
+    let j : b.indexes.taken ≡ indexes_after k b.indexes.taken = grind arith in
+    acting b k _ _ _ _ _ a (c.from.ensures ∙ c.site.ensures) c.in-Some.ensures.value c.serve.ensures i j
 
-border_of : (b : Book) (d : ℕ) → d ≤ b.days → d < 36
-border_of b d h = omega (arith, b.horizon)
+pub returns-in-End-clause-acts : goal.returns-in-End-clause-acts
+returns-in-End-clause-acts c =
+    let b = c.args.self.now in let k = c.args.call in let a = allowed b k c.requires in
+    let i : b.situations.taken ≡ situations_after k b.situations.taken = grind arith in
+    let j : b.indexes.taken ≡ indexes_after k b.indexes.taken = grind arith in
+    acting b k _ _ _ _ _ a (c.from.ensures ∙ c.site.ensures) c.in-Some.ensures.value c.serve.ensures i j
 
-pub act_open-requires : goal.act_open-requires
-act_open-requires c =
-    let i = c.in-Open in let b = c.args.self.now in let k = Open i.site i.day i.terms in
-    let free : Rules (setup b) (contents b) k None = subst (λ (z : Call). Rules (setup b) (contents b) z None) i.is c.requires in
-    let f = none_holds b k free in
-    (leb-false _ _ f.0, (day_of b i.day (leb-false _ _ f.1.1.0), leb-false _ _ f.1.1.1.1.1.1.1.1.0))
+pub returns-in-Enter-clause-acts : goal.returns-in-Enter-clause-acts
+returns-in-Enter-clause-acts c =
+    let b = c.args.self.now in let k = c.args.call in let a = allowed b k c.requires in
+    let i : b.situations.taken ≡ situations_after k b.situations.taken = grind arith in
+    let j : c.take-in-Enter.new.self.taken ≡ indexes_after k b.indexes.taken = grind arith in
+    acting b k _ _ _ _ _ a (c.from.ensures ∙ c.site.ensures) c.in-Some.ensures.value c.serve.ensures i j
 
-pub act_modify-requires : goal.act_modify-requires
-act_modify-requires c =
-    let i = c.in-Modify in let b = c.args.self.now in let k = Modify i.site i.day i.terms in
-    let free : Rules (setup b) (contents b) k None = subst (λ (z : Call). Rules (setup b) (contents b) z None) i.is c.requires in
-    let f = none_holds b k free in
-    (leb-false _ _ f.0, (day_of b i.day (leb-false _ _ f.1.1.0), (leb-false _ _ f.1.1.1.1.1.1.1.1.0, free)))
-
-pub act_end-requires : goal.act_end-requires
-act_end-requires c =
-    let i = c.in-End in let b = c.args.self.now in let k = End i.site i.day in
-    let free : Rules (setup b) (contents b) k None = subst (λ (z : Call). Rules (setup b) (contents b) z None) i.is c.requires in
-    let f = none_holds b k free in
-    (leb-false _ _ f.0, (border_of b i.day (ltb-false _ _ f.1.1.0), free))
-
-pub act_correct-requires : goal.act_correct-requires
-act_correct-requires c =
-    let i = c.in-Correct in let b = c.args.self.now in let k = Correct i.site i.day i.terms in
-    let free : Rules (setup b) (contents b) k None = subst (λ (z : Call). Rules (setup b) (contents b) z None) i.is c.requires in
-    let f = none_holds b k free in
-    (leb-false _ _ f.0, (day_of b i.day (leb-false _ _ f.1.1.0), free))
-
-pub act_enter-requires : goal.act_enter-requires
-act_enter-requires c =
-    let i = c.in-Enter in let b = c.args.self.now in let k = Enter i.site i.dial i.day i.value in
-    let free : Rules (setup b) (contents b) k None = subst (λ (z : Call). Rules (setup b) (contents b) z None) i.is c.requires in
-    let f = none_holds b k free in
-    let dial = or_parts (ltb i.dial 1) (ltb 2 i.dial) f.1.1.1.1.1.1.1.1.1.0 in
-    (leb-false _ _ f.0, (border_of b i.day (ltb-false _ _ f.1.1.0), (ltb-false _ _ dial.0, (ltb-false _ _ dial.1, leb-false _ _ f.1.1.1.1.1.1.1.1.1.1.1.1.1.0))))
-
-pub act_strike-requires : goal.act_strike-requires
-act_strike-requires c =
-    let i = c.in-Strike in let b = c.args.self.now in let k = Strike i.site i.dial i.day in
-    let free : Rules (setup b) (contents b) k None = subst (λ (z : Call). Rules (setup b) (contents b) z None) i.is c.requires in
-    let f = none_holds b k free in
-    let dial = or_parts (ltb i.dial 1) (ltb 2 i.dial) f.1.1.1.1.1.1.1.1.1.0 in
-    (leb-false _ _ f.0, (border_of b i.day (ltb-false _ _ f.1.1.0), (ltb-false _ _ dial.0, ltb-false _ _ dial.1)))
+pub returns-in-Strike-clause-acts : goal.returns-in-Strike-clause-acts
+returns-in-Strike-clause-acts c =
+    let b = c.args.self.now in let k = c.args.call in let a = allowed b k c.requires in
+    let i : b.situations.taken ≡ situations_after k b.situations.taken = grind arith in
+    let j : c.give_back.new.self.taken ≡ indexes_after k b.indexes.taken = grind arith in
+    acting b k _ _ _ _ _ a (c.from.ensures ∙ c.site.ensures) c.in-Some.ensures.value c.serve.ensures i j

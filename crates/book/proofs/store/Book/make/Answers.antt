@@ -1,22 +1,18 @@
-use Rattle.std.proofs.Common.{[], ◌∷◌, ◌++◌, Some, None, sym, refl, subst}
-use Rattle.refusals.specs.Numbers.{number_of}
-use Rattle.book_rules.specs.Contents.{Setup}
-use Rattle.book_rules.specs.Telling.{Step, Told, after}
-use Rattle.book.specs.Books.{setup, contents}
+use Rattle.std.proofs.Common.{Err, Ok, refl}
+use Rattle.std.proofs.lemmas.Result.{err_from_is_err_and}
+use Rattle.book.proofs.Ruled.{by_tests, made}
 use Rattle.book.proofs.store.Book.make.Goals as goal
 
-pub returns-in-Some : goal.returns-in-Some
-returns-in-Some c =
-    let b = c.args.self.now in let k = Some (number_of c.in-Some.refusal) in
-    let s : Step (setup b) (contents b) c.args.call k (contents b) = (c.in-Some.ensures, refl) in
-    record { same = refl; step = s; told = λ h t. after h c.args.call k (contents b) (contents b) t s }
+pub returns-in_err-allow : goal.returns-in_err-allow
+returns-in_err-allow c =
+    let b = c.args.self.now in
+    let p = err_from_is_err_and c.from_residual.result c.from_residual.ensures.1 in
+    rw (p.1, p.2) (made b b c.args.call (Err c.in_err-allow.field-0.0) refl (by_tests b c.args.call _ c.in_err-allow.ensures, refl))
 
-pub returns-in-None : goal.returns-in-None
-returns-in-None c =
-    let b = c.args.self.now in let a = c.act.new.self in
-    let s : Step (setup b) (contents b) c.args.call None (contents a) = (c.in-None.ensures, c.act.ensures.acts) in
-    record {
-      same = c.act.ensures.same;
-      step = s;
-      told = λ h t. subst (λ (z : Setup). Told z (h ++ c.args.call ∷ []) (contents a)) (sym c.act.ensures.same) (after h c.args.call None (contents b) (contents a) t s);
-    }
+pub act-requires : goal.act-requires
+act-requires c = by_tests c.args.self.now c.args.call _ c.in_ok-allow.ensures
+
+pub returns : goal.returns
+returns c =
+    let b = c.args.self.now in
+    made b c.act.new.self c.args.call _ c.act.ensures.same (by_tests b c.args.call _ c.in_ok-allow.ensures, c.act.ensures.acts)

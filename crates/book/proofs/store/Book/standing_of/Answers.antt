@@ -1,15 +1,13 @@
-use Rattle.std.proofs.Common.{ℕ, ◌<◌, get_or, vec_items, sym, subst}
-use Rattle.book_rules.specs.declared.Standing.{Standing}
-use Rattle.book_rules.specs.Contents.{Stands}
-use Rattle.book_rules.proofs.Standings.{stands_by}
-use Rattle.book.specs.Sites.{starting}
-use Rattle.book.specs.Books.{no_site}
-use Rattle.book.proofs.Storage.{past}
+use Rattle.std.proofs.Common.{◌≡◌, ◌<◌, vec_len, arith}
+use Rattle.std.proofs.lemmas.Grind.{common_steps}
+use Rattle.book_rules.specs.Tests.{standing}
+use Rattle.book.specs.Books.{contents}
+use Rattle.book.proofs.Ruled.{stands}
 use Rattle.book.proofs.store.Book.standing_of.Goals as goal
 
 pub returns : goal.returns
 returns c =
-    let x = get_or (vec_items c.args.self.now.sites) c.args.site no_site in (
-      subst (λ (n : ℕ). c.args.site < n) c.len.ensures c.if-site-len.false,
-      subst (λ (z : Standing). Stands (starting x) z) (sym c.standing_at.ensures) (stands_by (starting x) 36 (past x.situations)),
-    )
+    let b = c.args.self.now in
+    let known : c.args.site < vec_len b.sites = grind (arith, common_steps) in
+    let at : c.standing.result ≡ standing 36 (contents b) c.args.site = grind (arith, common_steps) in
+    (known, stands b c.args.site c.standing.result at)

@@ -1,0 +1,49 @@
+// Places: how many there are, and how many are taken.
+ghost use Rattle.std.specs.Prelude.{◌≡◌, ◌+◌, ◌-◌, ◌<◌, ◌≤◌, nat_le};
+
+#[derive(Drop)]
+pub(crate) struct Places {
+    most: usize,
+    taken: usize,
+    ghost within: { taken ≤ most },
+}
+
+impl Places {
+    // So many places, all free.
+    pub(crate) fn new(most: usize) -> Places
+        ensures most { result.most ≡ most }
+        ensures taken { result.taken ≡ 0 }
+    {
+        Places { most, taken: 0 }
+    }
+
+    pub(crate) fn free(&self) -> usize
+        ensures { result ≡ self.now.most - self.now.taken }
+    {
+        self.most - self.taken
+    }
+
+    pub(crate) fn are_full(&self) -> bool
+        ensures { result ≡ nat_le self.now.most self.now.taken }
+    {
+        self.free() == 0
+    }
+
+    // Takes a place, if one is free.
+    pub(crate) fn take(&mut self)
+        ensures most { self.new.most ≡ self.old.most }
+        ensures taken { self.old.taken < self.old.most → self.new.taken ≡ self.old.taken + 1 }
+    {
+        if self.taken < self.most {
+            self.taken += 1;
+        }
+    }
+
+    // Frees a place, if one is taken.
+    pub(crate) fn give_back(&mut self)
+        ensures most { self.new.most ≡ self.old.most }
+        ensures taken { self.new.taken ≡ self.old.taken - 1 }
+    {
+        self.taken = self.taken.saturating_sub(1);
+    }
+}
