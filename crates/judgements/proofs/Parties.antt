@@ -1,5 +1,5 @@
 -- The party and the weights of a span, from its grounds. Assumes nothing.
-use Rattle.std.proofs.Common.{◌≡◌, ℕ, ◌+◌, ◌-◌, ◌*◌, ◌<◌, ◌≤◌, List, get_or, Some, None, Err, Option, sym, refl, ap, ◌∙◌, subst, arith}
+use Rattle.std.proofs.Common.{◌≡◌, ℕ, ◌+◌, ◌-◌, ◌*◌, ◌<◌, ◌≤◌, List, get_or, Some, None, Ok, Err, Option, sym, refl, ap, ◌∙◌, subst, arith}
 use Rattle.sharing.specs.Shares.{before}
 use Rattle.span_rules.specs.Days.{Metering, own_sum, from}
 use Rattle.span_rules.specs.Anomalies.{FirstAnomaly}
@@ -8,10 +8,19 @@ use Rattle.span_rules.proofs.Sums.{before_same, before_ones}
 use Rattle.spans.specs.declared.Anomaly.{Anomaly}
 use Rattle.spans.specs.declared.Grounds.{Grounds}
 use Rattle.spans.specs.Numbers.{number_of, numbered}
-use Rattle.spans.specs.Judging.{Grounded, anomaly_by}
+use Rattle.spans.specs.Judging.{Grounded, anomaly_by, unless_found}
 use Rattle.spans.proofs.Judged.{with_grounds, own_by, own_sum_by}
 use Rattle.judgements.specs.declared.Judgement.{Judgement}
 use Rattle.judgements.specs.Judgements.{Weighed, OfParty, OwnWeights, WeighedFor, JudgedSo}
+
+-- what the check of the grounds told
+pub found_of : (o : Option Anomaly) (n : Anomaly) → Err n ≡ unless_found o → Some n ≡ o
+found_of None n h = cc
+found_of (Some m) n h = cc
+
+pub none_of : (o : Option Anomaly) → Ok tt ≡ unless_found o → None ≡ o
+none_of None h = refl
+none_of (Some m) h = cc
 
 module _ (x : Metering) (a b e : ℕ) (lt : a < b) (g : Grounds) (on : Grounded x.starting x.dial a b g) (ws : List ℕ) (s : ℕ) (h : Weighed (x.weights g.sub_profile) (48 * a) (48 * b) ws s) where
   sum_is : s ≡ own_sum x a b

@@ -25,7 +25,7 @@ module _ (first end : ℕ) (ws : List ℕ) (le : first ≤ end) (room : end ≤ 
   pub at_mid : (new : List ℕ) → length new ≡ length (mid_of first (end - first) ws) → (t : ℕ) → first ≤ t → t < end → get_or (put_mid first (end - first) ws new) t 0 ≡ get_or new (t - first) 0
   at_mid new long t lo hi = let k = long ∙ length_mid in search (rules, places)
 
-  pub weighed_mid : (w : ℕ → ℕ) (new : List ℕ) (s : ℕ) → length new ≡ length (mid_of first (end - first) ws) → WeighedInto w first (length (mid_of first (end - first) ws)) new s → Weighed w first end (put_mid first (end - first) ws new) s
+  weighed_mid : (w : ℕ → ℕ) (new : List ℕ) (s : ℕ) → length new ≡ length (mid_of first (end - first) ws) → WeighedInto w first (length (mid_of first (end - first) ws)) new s → Weighed w first end (put_mid first (end - first) ws new) s
   weighed_mid w new s long h = record {
     places = λ t lo hi.
         let at : first + (t - first) ≡ t = omega arith in
@@ -33,6 +33,9 @@ module _ (first end : ℕ) (ws : List ℕ) (le : first ≤ end) (room : end ≤ 
     sum = h.sum ∙ ap (before (from w first)) length_mid;
   }
 
--- half-hours told otherwise
-pub weighed_at : (w : ℕ → ℕ) (first end p q s : ℕ) (ws : List ℕ) → first ≡ p → end ≡ q → Weighed w first end ws s → Weighed w p q ws s
-weighed_at w first end p q s ws e f h = subst (λ (k : ℕ). Weighed w k q ws s) e (subst (λ (k : ℕ). Weighed w first k ws s) f h)
+-- the same where the half-hours are told otherwise
+pub weighed_part : (w : ℕ → ℕ) (p q first end s : ℕ) (ws new : List ℕ) → first ≡ p → end ≡ q → first ≤ end → end ≤ length ws → length new ≡ length (mid_of first (end - first) ws)
+    → WeighedInto w first (length (mid_of first (end - first) ws)) new s → Weighed w p q (put_mid first (end - first) ws new) s
+weighed_part w p q first end s ws new first_is end_is le room long h =
+    let into = put_mid first (end - first) ws new in
+    subst (λ (k : ℕ). Weighed w k q into s) first_is (subst (λ (k : ℕ). Weighed w first k into s) end_is (weighed_mid first end ws le room w new s long h))

@@ -63,10 +63,8 @@ impl<S: ProfileSource> MeteredDial<'_, S> {
             places.start,
             &mut weights[places],
         );
-        match grounds.anomaly(self.thresholds, span.energy, sum) {
-            Some(anomaly) => Err(anomaly),
-            None => Ok((grounds.party, sum)),
-        }
+        grounds.check(self.thresholds, span.energy, sum)?;
+        Ok((grounds.party, sum))
     }
 
     // Judges a span of the dial, and writes the weights by which its energy is shared into the places of its half-hours:

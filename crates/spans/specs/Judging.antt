@@ -65,3 +65,8 @@ anomaly_by k theta g e s =
     cond (s == 0) (Some ZeroWeight)
     (cond (nat_le g.sub_profile 7 && extreme k (theta g.sub_profile) g.power e s) (Some ExtremeFactor)
     None)
+
+-- An anomaly is the error; without one all is well.
+abbrev pub unless_found : Option Anomaly → Result (Unit {0}) Anomaly
+unless_found None = Ok tt
+unless_found (Some n) = Err n

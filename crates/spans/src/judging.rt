@@ -3,7 +3,7 @@ ghost use Rattle.std.specs.Prelude.{◌≡◌, ◌<◌, not, ◌&&◌, is_some, 
 ghost use Rattle.book.specs.Books.{contents};
 ghost use Rattle.span_rules.specs.Lasts.{later};
 ghost use Rattle.span_rules.specs.Days.{unless_ended, sub_profile_under};
-ghost use Rattle.spans.specs.Judging.{OneSituation, GroundsTold, anomaly_by};
+ghost use Rattle.spans.specs.Judging.{OneSituation, GroundsTold, anomaly_by, unless_found};
 
 use crate::{Anomaly, Grounds, SiteDial};
 use book_rules::{Situation, Terms};
@@ -80,16 +80,17 @@ impl SiteDial<'_> {
 }
 
 impl Grounds {
-    // The anomaly that a span with these grounds has by its energy and the sum of its weights.
-    pub fn anomaly(self, thresholds: &Thresholds, energy: u32, weights: u64) -> Option<Anomaly>
-        ensures { result ≡ anomaly_by thresholds.now.k (λ p. slice_index thresholds.now.thetas p) self energy weights }
+    // Whether the energy of a span with these grounds may go to the party, by that energy and the sum of its weights; or
+    // the anomaly that keeps it.
+    pub fn check(self, thresholds: &Thresholds, energy: u32, weights: u64) -> Result<(), Anomaly>
+        ensures { result ≡ unless_found (anomaly_by thresholds.now.k (λ p. slice_index thresholds.now.thetas p) self energy weights) }
     {
         if weights == 0 {
-            return Some(Anomaly::ZeroWeight);
+            return Err(Anomaly::ZeroWeight);
         }
         match thresholds.is_extreme(self.sub_profile, self.power, energy, weights) {
-            Some(true) => Some(Anomaly::ExtremeFactor),
-            _ => None,
+            Some(true) => Err(Anomaly::ExtremeFactor),
+            _ => Ok(()),
         }
     }
 }
