@@ -110,6 +110,7 @@ impl<'a, S: ProfileSource> Weights<'a, S> {
         requires behind { sharing.behind ≡ 0 }
         ensures { IfOk result (λ v. Curve sharing.energy (S.weighs self.now.source.now self.now.sub_profile) (S.covers self.now.source.now) v.items) }
     {
+        // No chain: a closure in `map` that changes the sharing leaves the proof without what `collect` gathers.
         let mut curve = Vec::new(heap);
         for t in 0..self.source.covered() {
             curve.push(sharing.next_figure(self.at(t)))?;
