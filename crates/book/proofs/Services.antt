@@ -1,9 +1,8 @@
 -- The situation that covers a day. Assumes nothing.
-use Rattle.std.proofs.Common.{◌≡◌, ℕ, ◌<◌, ◌≤◌, Some, None, Option, refl, ⊎_elim, arith}
-use Rattle.std.proofs.lemmas.Bool.{cases_lt}
+use Rattle.std.proofs.Common.{◌≡◌, ℕ, ◌<◌, ◌≤◌, Some, None, Option, refl, arith}
 use Rattle.book_rules.specs.declared.Situation.{Situation}
 use Rattle.book_rules.specs.declared.Service.{Service}
-use Rattle.book.specs.Sites.{covering, service_of, Serving}
+use Rattle.book.specs.Sites.{service_of, Serving}
 
 -- the one that starts on b was answered
 found : (f : ℕ → Option Situation) (b d : ℕ) (v : Service) (o : Option Situation) → f b ≡ o → Some v ≡ service_of b o d → Serving f d (Some v)
