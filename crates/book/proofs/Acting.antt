@@ -1,6 +1,5 @@
 -- What a change of one site does to what the book holds, for each call. Assumes nothing.
 use Rattle.std.proofs.Common.{◌≡◌, ℕ, ◌+◌, ◌-◌, ◌<◌, Bool, cond, ◌&&◌, eqb, List, length, get_or, set, Some, None, Option, sym, refl, ap, ◌∙◌, subst, arith, get_or-set_other, get_or-set_same}
-use Rattle.std.proofs.lemmas.Grind.{elements}
 use Rattle.std.proofs.lemmas.Bool.Decides.{nat_tests}
 use Rattle.book_rules.specs.declared.Terms.{Terms}
 use Rattle.book_rules.specs.declared.Situation.{Situation}

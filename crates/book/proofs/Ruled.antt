@@ -1,5 +1,5 @@
 -- What the tests of a call find is the ruling, and a refused call changes nothing. Assumes nothing.
-use Rattle.std.proofs.Common.{◌≡◌, ℕ, ◌<◌, ltb, length, get_or, set, ◌∷◌, [], ◌++◌, None, vec_items, Option, Result, sym, subst, arith}
+use Rattle.std.proofs.Common.{◌≡◌, ℕ, ◌<◌, Bool, false, cond, ◌||◌, eqb, ltb, List, length, get_or, set, ◌∷◌, [], ◌++◌, None, vec_items, Option, Result, sym, refl, subst, arith}
 use Rattle.std.proofs.lemmas.Bool.{leb-false, ltb-false, or_parts}
 use Rattle.refusals.specs.declared.Refusal.{Refusal}
 use Rattle.book_rules.specs.declared.Call.{Call}
@@ -14,7 +14,7 @@ use Rattle.book_rules.proofs.Standings.{stands_by}
 use Rattle.book_rules.proofs.Upper.{Failed, failed}
 use Rattle.book.specs.declared.site.Site.{Site}
 use Rattle.book.specs.declared.store.Book.{Book}
-use Rattle.book.specs.Sites.{IsKept, Serves}
+use Rattle.book.specs.Sites.{IsKept, IsKeptAt, Serves}
 use Rattle.book.specs.Books.{no_site, setup, held, contents, answered, Made}
 use Rattle.book.proofs.Acting.{OneIndexMore, situations_after, indexes_after, acted}
 use Rattle.book.proofs.Storage.{past, within, read}
@@ -42,35 +42,30 @@ pub record Allowed (b : Book) (c : Call) : Type 0 where
   pub index_free : OneIndexMore c → b.indexes.taken < b.indexes.most
   pub none : (k : ℕ) → Applies (setup b) (contents b) c k → ⊥
 
--- of a call that is not refused every test fails
-failures : (b : Book) (c : Call) → Rules (setup b) (contents b) c None → Failed (tests 36 (setup b) (contents b) c)
-failures b c = failed (Applies (setup b) (contents b) c) (tests 36 (setup b) (contents b) c) (sound 36 (setup b) (contents b) (within (vec_items b.sites) b.situations.taken b.indexes.taken) c)
+-- the test of that number
+abbrev test_of : ℕ → List (ℕ × Bool) → Bool
+test_of k [] = false
+test_of k (x ∷ xs) = cond (eqb k x.0) x.1 (test_of k xs)
 
-pub allowed : (b : Book) (c : Call) → Rules (setup b) (contents b) c None → Allowed b c
-allowed b (Open s d t) r = let f = failures b (Open s d t) r in record { known = omega (arith, leb-false _ _ f.0); kept = omega (arith, b.horizon, leb-false _ _ f.1.1.0); situation_free = λ o. leb-false _ _ f.1.1.1.1.1.1.1.1.0; index_free = λ o. absurd o; none = r }
-allowed b (Modify s d t) r = let f = failures b (Modify s d t) r in record { known = omega (arith, leb-false _ _ f.0); kept = omega (arith, b.horizon, leb-false _ _ f.1.1.0); situation_free = λ o. leb-false _ _ f.1.1.1.1.1.1.1.1.0; index_free = λ o. absurd o; none = r }
-allowed b (End s d) r = let f = failures b (End s d) r in record { known = omega (arith, leb-false _ _ f.0); kept = tt; situation_free = λ o. absurd o; index_free = λ o. absurd o; none = r }
-allowed b (Correct s d t) r = let f = failures b (Correct s d t) r in record { known = omega (arith, leb-false _ _ f.0); kept = tt; situation_free = λ o. absurd o; index_free = λ o. absurd o; none = r }
-allowed b (Enter s k d v) r =
-    let f = failures b (Enter s k d v) r in
-    let dial = or_parts (ltb k 1) (ltb 2 k) f.1.1.1.1.1.1.1.1.1.0 in
-    record {
-      known = omega (arith, leb-false _ _ f.0);
-      kept = record { least = ltb-false _ _ dial.0; most = ltb-false _ _ dial.1; day = omega (arith, b.horizon, ltb-false _ _ f.1.1.0) };
-      situation_free = λ o. absurd o;
-      index_free = λ o. leb-false _ _ f.1.1.1.1.1.1.1.1.1.1.1.1.1.0;
-      none = r;
-    }
-allowed b (Strike s k d) r =
-    let f = failures b (Strike s k d) r in
-    let dial = or_parts (ltb k 1) (ltb 2 k) f.1.1.1.1.1.1.1.1.1.0 in
-    record {
-      known = omega (arith, leb-false _ _ f.0);
-      kept = record { least = ltb-false _ _ dial.0; most = ltb-false _ _ dial.1; day = omega (arith, b.horizon, ltb-false _ _ f.1.1.0) };
-      situation_free = λ o. absurd o;
-      index_free = λ o. absurd o;
-      none = r;
-    }
+-- of a call that is not refused every test fails
+fails : (k : ℕ) (xs : List (ℕ × Bool)) → Failed xs → test_of k xs ≡ false
+fails k [] f = refl
+fails k (x ∷ xs) f = let rest = fails k xs f.1 in grind arith
+
+module _ (b : Book) where
+  failed_test : (c : Call) → Rules (setup b) (contents b) c None → (k : ℕ) → test_of k (tests 36 (setup b) (contents b) c) ≡ false
+  failed_test c r k = fails k (tests 36 (setup b) (contents b) c) (failed (Applies (setup b) (contents b) c) (tests 36 (setup b) (contents b) c) (sound 36 (setup b) (contents b) (within (vec_items b.sites) b.situations.taken b.indexes.taken) c) r)
+
+  dial_kept : (k d : ℕ) → (ltb k 1 || ltb 2 k) ≡ false → ltb b.days d ≡ false → IsKeptAt k d
+  dial_kept k d e h = let o = or_parts (ltb k 1) (ltb 2 k) e in record { least = ltb-false _ _ o.0; most = ltb-false _ _ o.1; day = omega (arith, b.horizon, ltb-false _ _ h) }
+
+  pub allowed : (c : Call) → Rules (setup b) (contents b) c None → Allowed b c
+  allowed (Open s d t) r = let f = failed_test (Open s d t) r in record { known = omega (arith, leb-false _ _ (f 3)); kept = omega (arith, b.horizon, leb-false _ _ (f 5)); situation_free = λ o. leb-false _ _ (f 11); index_free = λ o. absurd o; none = r }
+  allowed (Modify s d t) r = let f = failed_test (Modify s d t) r in record { known = omega (arith, leb-false _ _ (f 3)); kept = omega (arith, b.horizon, leb-false _ _ (f 5)); situation_free = λ o. leb-false _ _ (f 11); index_free = λ o. absurd o; none = r }
+  allowed (End s d) r = let f = failed_test (End s d) r in record { known = omega (arith, leb-false _ _ (f 3)); kept = tt; situation_free = λ o. absurd o; index_free = λ o. absurd o; none = r }
+  allowed (Correct s d t) r = let f = failed_test (Correct s d t) r in record { known = omega (arith, leb-false _ _ (f 3)); kept = tt; situation_free = λ o. absurd o; index_free = λ o. absurd o; none = r }
+  allowed (Enter s k d v) r = let f = failed_test (Enter s k d v) r in record { known = omega (arith, leb-false _ _ (f 3)); kept = dial_kept k d (f 12) (f 5); situation_free = λ o. absurd o; index_free = λ o. leb-false _ _ (f 16); none = r }
+  allowed (Strike s k d) r = let f = failed_test (Strike s k d) r in record { known = omega (arith, leb-false _ _ (f 3)); kept = dial_kept k d (f 12) (f 5); situation_free = λ o. absurd o; index_free = λ o. absurd o; none = r }
 
 -- the site has served the call, and the places are counted
 pub acting : (b : Book) (c : Call) (s i j : ℕ) (x y : Site) → Allowed b c → s ≡ site_of c → x ≡ get_or (vec_items b.sites) s x → (IsKept c → Serves x y c) → i ≡ situations_after c b.situations.taken → j ≡ indexes_after c b.indexes.taken → Acts (contents b) (held (set (vec_items b.sites) s y) i j) c

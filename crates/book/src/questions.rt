@@ -83,14 +83,14 @@ impl Book {
         self.site(site)?.dial(Dial::try_from(dial).ok()?).at(day)
     }
 
-    // How many places for situations are free; None if more were taken than there are, which no history tells.
+    // How many places for situations are free; always told, since no more are taken than there are.
     pub fn free_situation_places(&self) -> Option<usize>
         ensures { result ≡ left_of (setup self.now).situation_places (contents self.now).situations }
     {
         Some(self.situations.free())
     }
 
-    // How many places for indexes are free; None if more were taken than there are, which no history tells.
+    // How many places for indexes are free; always told, since no more are taken than there are.
     pub fn free_index_places(&self) -> Option<usize>
         ensures { result ≡ left_of (setup self.now).index_places (contents self.now).indexes }
     {

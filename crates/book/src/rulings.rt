@@ -1,11 +1,13 @@
 // Why a call is refused, if it is: the tests in the order of their numbers, on the unchanged book.
-ghost use Rattle.std.specs.Prelude.{◌≡◌, not, [], ◌∷◌, is_ok, nat_le};
+ghost use Rattle.std.specs.Prelude.{◌≡◌, not, [], ◌∷◌, is_ok, is_some, nat_le, nat_lt};
 ghost use Rattle.profiles.specs.Table.{profile_of};
-ghost use Rattle.book_rules.specs.Tests.{first, tests, of_terms, beyond, opened_running, not_served, unfit_day};
+ghost use Rattle.book_rules.specs.Tests.{first, tests, of_terms, beyond, crossed, opened_running, not_served, unfit_day};
+ghost use Rattle.book.specs.Sites.{on};
 ghost use Rattle.book.specs.Books.{setup, contents, answered};
 
+use crate::by_day::ByDay;
 use crate::store::Book;
-use book_rules::{Call, Standing};
+use book_rules::{Call, Index, Standing};
 use profiles::{Dial, Profile};
 use refusals::Refusal;
 
@@ -58,6 +60,25 @@ impl Book {
         Ok(())
     }
 
+    // What is asked of an index that is to stand among those of its dial.
+    fn allow_index(&self, indexes: &ByDay<Index>, day: u8, value: u32) -> Result<(), Refusal>
+        ensures { answered result ≡ first ((13, nat_lt 999999999 value) ∷ (14, is_some (on indexes.now day)) ∷ (15, crossed (on indexes.now) day value 36) ∷ (16, nat_le self.now.indexes.most self.now.indexes.taken) ∷ []) }
+    {
+        if value > 999_999_999 {
+            return Err(Refusal::IndexTooLarge);
+        }
+        if indexes.at(day).is_some() {
+            return Err(Refusal::IndexAlreadyStands);
+        }
+        if indexes.speak_against(day, value) {
+            return Err(Refusal::IndexOutOfOrder);
+        }
+        if self.indexes.are_full() {
+            return Err(Refusal::IndexesFull);
+        }
+        Ok(())
+    }
+
     // The first test of a call that holds refuses it.
     pub(crate) fn allow(&self, call: Call) -> Result<(), Refusal>
         ensures { answered result ≡ first (tests 36 (setup self.now) (contents self.now) call) }
@@ -77,22 +98,7 @@ impl Book {
                 day,
                 value,
                 ..
-            } => {
-                let indexes = site.dial(Dial::try_from(dial)?);
-                if value > 999_999_999 {
-                    return Err(Refusal::IndexTooLarge);
-                }
-                if indexes.at(day).is_some() {
-                    return Err(Refusal::IndexAlreadyStands);
-                }
-                if indexes.speak_against(day, value) {
-                    return Err(Refusal::IndexOutOfOrder);
-                }
-                if self.indexes.are_full() {
-                    return Err(Refusal::IndexesFull);
-                }
-                Ok(())
-            }
+            } => { self.allow_index(site.dial(Dial::try_from(dial)?), day, value) }
             Call::Strike { dial, day, .. } => match site.dial(Dial::try_from(dial)?).at(day) {
                 Some(_) => Ok(()),
                 None => Err(Refusal::NoIndex),

@@ -23,11 +23,7 @@ fn is_within_bounds(set_up: SetUp) -> bool
 fn empty_sites(heap: Global, count: u16) -> Result<Vec<Site>, AllocError>
     ensures { IfOk result (λ v. (vec_len v ≡ count) × AllEmpty v.items) }
 {
-    let mut sites = Vec::with_capacity(heap, usize::from(count))?;
-    for _ in 0..count {
-        sites.push(Site::new())?;
-    }
-    Ok(sites)
+    (0..count).map(|_| Site::new()).collect(heap)
 }
 
 impl Book {

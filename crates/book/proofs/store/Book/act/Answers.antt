@@ -1,4 +1,4 @@
-use Rattle.std.proofs.Common.{◌≡◌, sym, refl, arith, rules, ◌∙◌}
+use Rattle.std.proofs.Common.{◌≡◌, arith, rules, ◌∙◌}
 use Rattle.book.proofs.Acting.{situations_after, indexes_after}
 use Rattle.book.proofs.Ruled.{allowed, acting}
 use Rattle.book.proofs.store.Book.act.Goals as goal
