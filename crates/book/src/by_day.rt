@@ -1,4 +1,5 @@
-// Something on each of the days 0 to 35, or nothing. Of later days there is nothing, and nothing is put there.
+// Something on each of the days 0 to 35, or nothing. Of later days there is nothing, and nothing is put there. There is a
+// place for each day from set-up on, so that no call needs memory.
 ghost use Rattle.std.specs.Prelude.{◌≡◌, ℕ, ◌<◌, ◌&&◌, length, replicate, if◌then◌else◌, None, nat_eq, nat_lt, slice_index_or};
 
 #[derive(Drop)]

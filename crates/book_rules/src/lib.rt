@@ -12,7 +12,8 @@ use refusals::Refusal;
 use std::alloc::{AllocError, AllocFailed};
 
 // The terms on which a site is served: the balance party on whose account, the class (metering configuration) and the
-// subscribed power in kVA.
+// subscribed power in kVA. They are numbers as they come in, since a call takes any and answers those that mean nothing
+// with a refusal.
 #[derive(Clone, Copy, PartialEq, Eq, Debug)]
 pub struct Terms {
     pub party: u8,
@@ -42,7 +43,8 @@ pub enum Standing {
     Ended { start: u8, end: u8 },
 }
 
-// The six calls that change a book. Days are counted from the first day of the book, from 0.
+// The six calls that change a book. Days are counted from the first day of the book, from 0. Site, day and dial are any
+// numbers, as those of the terms: each call refuses for itself what there is not.
 #[derive(Clone, Copy, PartialEq, Eq, Debug)]
 pub enum Call {
     Open {

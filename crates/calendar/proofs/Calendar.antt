@@ -3,7 +3,7 @@ use Rattle.std.proofs.Common.{◌≡◌, ℕ, zero, suc, ◌+◌, ◌-◌, ◌/�
 use native.Mathlib.Nat.{mod-add-mod}
 use Rattle.std.proofs.lemmas.Bool.{cases_lt, leb-true, le-leb, and_parts, and_from, cond-true}
 use Rattle.std.proofs.lemmas.Bool.Decides.{nat_tests}
-use Rattle.lemmas.proofs.Options.{some_when}
+use Rattle.std.proofs.lemmas.Option.{cond_some}
 use Rattle.calendar.specs.declared.CivilDate.{CivilDate}
 use Rattle.calendar.specs.Dates.{last_date, new_year, days_before_month, month_length, begun, between, in_calendar, date_of, civil_of, year_of, day_of_year, month_of, day_of_month}
 use Rattle.calendar.specs.Places.{weekday, week_of, since_monday, holiday, bridging, day_counted}
@@ -79,7 +79,7 @@ within a x b e = let p = and_parts (leb a x) (leb x b) e in (leb-true a x p.0, l
 
 pub only : (c : CivilDate) (x : ℕ) → date_of c ≡ Some x → (x ≤ last_date) × (civil_of x ≡ c)
 only c x e =
-    let w = some_when (in_calendar c) _ x (sym e) in
+    let w = cond_some (in_calendar c) _ x e in
     let p = and_parts (between 2001 c.year 2099 && between 1 c.month 12) _ w.0 in
     let q = and_parts (between 2001 c.year 2099) _ p.0 in
     let y = within 2001 c.year 2099 q.0 in

@@ -9,7 +9,7 @@ use calendar::Place;
 pub mod source;
 
 // The coefficients of the eight sub-profiles, and the place of each day in the profile year: looked up once, when the
-// source is made.
+// source is made. The arrays are of fixed length, so that a source needs no heap and can always be made.
 #[derive(Drop)]
 pub struct Coefficients {
     list: [u16; 3160],

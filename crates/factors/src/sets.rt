@@ -39,7 +39,7 @@ impl Thresholds {
     }
 
     // Whether the usage factor of a span of this energy and sum of weights is extreme at this power; none for a
-    // sub-profile past 7.
+    // sub-profile past 7. It may be asked of any numbers.
     pub fn is_extreme(&self, sub_profile: u8, kva: u8, energy: u32, weights: u64) -> Option<bool>
         ensures { result ≡ (if nat_le sub_profile 7 then Some (extreme self.now.k (slice_index_or self.now.thetas sub_profile 0) kva energy weights) else None) }
     {

@@ -67,6 +67,7 @@ impl<S: ProfileSource> MeteredDial<'_, S> {
         Ok((grounds.party, sum))
     }
 
+    // The places are a fixed array of the caller's, as there is no heap here and a span is at most 35 days long.
     // Judges a span of the dial, and writes the weights by which its energy is shared into the places of its half-hours:
     // the source's for the party of the one situation that its days lie in, or 1 each for its first anomaly. A span past
     // day 35 is judged up to there.

@@ -47,7 +47,8 @@ const SUB_PROFILES: [[Option<u8>; 2]; 5] = [
 ];
 
 impl Profile {
-    // The profile of a class (the metering configuration, 1 to 3) at a subscribed power of 1 to 36 kVA.
+    // The profile of a class (the metering configuration, 1 to 3) at a subscribed power of 1 to 36 kVA. Class and power
+    // are any numbers; those in no row of the table are refused here.
     pub fn of(class: u8, kva: u8) -> Result<Profile, Refusal>
         ensures { result ≡ profile_of class kva }
     {

@@ -18,10 +18,7 @@ fn main(rt: HostRuntime) -> anyhow::Result<()> {
 fn run(rt: &HostRuntime) -> anyhow::Result<()> {
     let (set_up, calls) = read(rt)?;
     match replayed(rt.alloc(), set_up, calls.as_slice()) {
-        Err(SetUpError::Refused(refusal)) => println!(rt;
-            "set-up refused with {}",
-            refusal.number()
-        )?,
+        Err(SetUpError::Refused(refusal)) => println!(rt; "set-up {refusal}")?,
         Err(SetUpError::OutOfMemory) => bail!("there is no memory for the book"),
         Ok(result) => {
             print_answers(rt, result.answers.as_slice())?;
@@ -54,7 +51,7 @@ fn print_answers(rt: &HostRuntime, answers: &[Result<(), Refusal>]) -> io::Resul
     for (k, answer) in answers.iter().enumerate() {
         match answer {
             Ok(()) => println!(rt; "call {k}: made")?,
-            Err(refusal) => println!(rt; "call {k}: refused with {}", refusal.number())?,
+            Err(refusal) => println!(rt; "call {k}: {refusal}")?,
         }
     }
     Ok(())

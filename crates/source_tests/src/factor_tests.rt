@@ -3,31 +3,30 @@ use factors::sets::usage_factor_of;
 use refusals::Refusal;
 use std::test::Fail;
 
-fn refused(k: u32, thetas: &[u32]) -> Option<Refusal> {
-    Thresholds::of(k, thetas).err()
-}
-
 #[test]
 fn threshold_sets(rt: HostRuntime) {
-    assert_eq!(rt; refused(0, &[0; 8]), None);
-    assert_eq!(rt; refused(50_000, &[50_000; 8]), None);
+    assert_eq!(rt; Thresholds::of(0, &[0; 8]).err(), None);
+    assert_eq!(rt; Thresholds::of(50_000, &[50_000; 8]).err(), None);
     assert_eq!(rt;
-        refused(1, &[0, 0, 0, 0, 0, 0, 0, 0, 99_999]),
+        Thresholds::of(1, &[0, 0, 0, 0, 0, 0, 0, 0, 99_999]).err(),
         None,
         "a ninth theta is not read"
     );
     assert_eq!(rt;
-        refused(60_000, &[60_000; 7]),
+        Thresholds::of(60_000, &[60_000; 7]).err(),
         Some(Refusal::BufferTooShort),
         "before numbers out of bounds"
     );
-    assert_eq!(rt; refused(50_001, &[0; 8]), Some(Refusal::ValueOutOfBounds));
     assert_eq!(rt;
-        refused(0, &[0, 0, 0, 0, 0, 0, 0, 50_001]),
+        Thresholds::of(50_001, &[0; 8]).err(),
         Some(Refusal::ValueOutOfBounds)
     );
     assert_eq!(rt;
-        refused(u32::MAX, &[u32::MAX; 8]),
+        Thresholds::of(0, &[0, 0, 0, 0, 0, 0, 0, 50_001]).err(),
+        Some(Refusal::ValueOutOfBounds)
+    );
+    assert_eq!(rt;
+        Thresholds::of(u32::MAX, &[u32::MAX; 8]).err(),
         Some(Refusal::ValueOutOfBounds)
     );
 }

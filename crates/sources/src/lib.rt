@@ -18,7 +18,8 @@ pub trait ProfileSource {
         ensures short { Short (covers self.now) }
         ensures light { Light (covers self.now) (weighs self.now) };
 
-    // The weight of a half-hour for a sub-profile; none for a sub-profile past 7 or a half-hour that is not covered.
+    // The weight of a half-hour for a sub-profile; none for a sub-profile past 7 or a half-hour that is not covered. Both
+    // are any numbers, since a question past the bounds is one that may be asked.
     fn weight(&self, sub_profile: u8, half_hour: usize) -> Option<u32>
         ensures answer { result ≡ answer (covers self.now) (weighs self.now) sub_profile half_hour }
         ensures within { IfSome result (λ w. (w ≤ 1000000) × (half_hour < 1680)) };

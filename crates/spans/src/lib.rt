@@ -11,7 +11,7 @@ use std::ops::Range;
 pub mod finding;
 pub mod judging;
 
-// A dial of a site, as a book knows it.
+// A dial of a site, as a book knows it. Site and dial are any numbers: where there is no such dial, no span is found.
 #[derive(Clone, Copy)]
 pub struct SiteDial<'a> {
     pub book: &'a Book,
@@ -61,7 +61,8 @@ impl Anomaly {
     }
 }
 
-// What a span lies on that lies in one situation whose profile has the dial.
+// What a span lies on that lies in one situation whose profile has the dial. The sub-profile is a number, by which weights
+// and thresholds are asked for.
 #[derive(Clone, Copy, PartialEq, Eq, Debug)]
 pub struct Grounds {
     pub party: u8,

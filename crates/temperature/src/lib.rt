@@ -5,7 +5,8 @@ pub mod layer;
 mod loading;
 
 // What the layer holds: for each half-hour the normal and the measured temperature in tenths of a degree, the heating
-// threshold, and for each sub-profile a gradient in ten-thousandths per degree.
+// threshold, and for each sub-profile a gradient in ten-thousandths per degree. The arrays are of fixed length, so that a
+// layer needs no heap and no load can fail for memory.
 #[derive(Drop)]
 pub struct Temperatures {
     normal: [i16; 1680],

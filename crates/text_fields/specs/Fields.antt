@@ -1,6 +1,6 @@
 -- Numbers and dates as a line of text has them, byte by byte (48 to 57 are the digits, 45 is the hyphen).
 use Rattle.std.specs.Prelude.{ℕ, ◌+◌, ◌-◌, ◌*◌, Bool, cond, ◌&&◌, List, [], ◌∷◌, length, take, drop, Some, None, Option, ◌==◌, nat_le, slice_index}
-use Rattle.lemmas.specs.Every.{every}
+use Rattle.std.specs.List.{list_all}
 use Rattle.calendar.specs.declared.CivilDate.{CivilDate}
 
 abbrev pub digit : ℕ → Bool
@@ -13,7 +13,7 @@ value_after n (b ∷ bs) = value_after (n * 10 + (b - 48)) bs
 
 -- A number is one to nine digits.
 abbrev pub decimal_of : List ℕ → Option ℕ
-decimal_of bs = cond (nat_le 1 (length bs) && nat_le (length bs) 9 && every digit bs) (Some (value_after 0 bs)) None
+decimal_of bs = cond (nat_le 1 (length bs) && nat_le (length bs) 9 && list_all digit bs) (Some (value_after 0 bs)) None
 
 abbrev pub dated : Option ℕ → Option ℕ → Option ℕ → Option CivilDate
 dated None m d = None

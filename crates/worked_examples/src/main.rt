@@ -24,6 +24,7 @@ fn main(rt: HostRuntime) -> anyhow::Result<()> {
 fn run(rt: &HostRuntime) -> anyhow::Result<()> {
     let table = fs::read_to_string(rt, "special-days-2005.csv")?;
     let holidays = holidays_of(rt.alloc(), table.as_str())?;
+    // a flag, since every row is printed, also after one that does not hold
     let mut all_hold = true;
     for line in table.as_str().lines().skip(1) {
         let row = row_of(line).context("a row of the table cannot be read")?;

@@ -1,3 +1,0 @@
-pub mod Options
-pub mod Tests
-pub mod Writes
