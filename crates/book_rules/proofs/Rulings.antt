@@ -79,36 +79,16 @@ crossed_from f d v (suc n) e lt a =
 
 -- what is asked of terms
 terms_sound : (P : Terms → Type 0) (p : Terms → Bool) → ((t : Terms) → p t ≡ true → P t) → (c : Call) → of_terms p c ≡ true → OfTerms P c
-terms_sound P p each (Open s d t) h = each t h
-terms_sound P p each (Modify s d t) h = each t h
-terms_sound P p each (End s d) h = absurd (false≢true h)
-terms_sound P p each (Correct s d t) h = each t h
-terms_sound P p each (Enter s k d v) h = absurd (false≢true h)
-terms_sound P p each (Strike s k d) h = absurd (false≢true h)
+terms_sound P p each c h = grind (arith, each)
 
 terms_tested : (P : Terms → Type 0) (p : Terms → Bool) → ((t : Terms) → P t → p t ≡ true) → (c : Call) → OfTerms P c → of_terms p c ≡ true
-terms_tested P p each (Open s d t) h = each t h
-terms_tested P p each (Modify s d t) h = each t h
-terms_tested P p each (End s d) h = absurd h
-terms_tested P p each (Correct s d t) h = each t h
-terms_tested P p each (Enter s k d v) h = absurd h
-terms_tested P p each (Strike s k d) h = absurd h
+terms_tested P p each c h = grind (arith, each)
 
 beyond_sound : (u : Setup) (c : Call) → beyond u c ≡ true → Beyond u c
-beyond_sound u (Open s d t) h = leb-true _ _ h
-beyond_sound u (Modify s d t) h = leb-true _ _ h
-beyond_sound u (End s d) h = ltb-true _ _ h
-beyond_sound u (Correct s d t) h = leb-true _ _ h
-beyond_sound u (Enter s k d v) h = ltb-true _ _ h
-beyond_sound u (Strike s k d) h = ltb-true _ _ h
+beyond_sound u c h = grind (arith, nat_tests)
 
 beyond_tested : (u : Setup) (c : Call) → Beyond u c → beyond u c ≡ true
-beyond_tested u (Open s d t) h = le-leb _ _ h
-beyond_tested u (Modify s d t) h = le-leb _ _ h
-beyond_tested u (End s d) h = lt-ltb _ _ h
-beyond_tested u (Correct s d t) h = le-leb _ _ h
-beyond_tested u (Enter s k d v) h = lt-ltb _ _ h
-beyond_tested u (Strike s k d) h = lt-ltb _ _ h
+beyond_tested u c h = grind (arith, nat_tests)
 
 dial_either : (k : ℕ) → (ltb k 1 || ltb 2 k) ≡ true → (k < 1) ⊎ (2 < k)
 dial_either k h = ⊎_elim {C = (k < 1) ⊎ (2 < k)} (λ (a : ltb k 1 ≡ true). inl (ltb-true _ _ a)) (λ (a : ltb 2 k ≡ true). inr (ltb-true _ _ a)) (or_cases _ _ h)
@@ -118,61 +98,26 @@ dial_or k (inl h) = or_left _ _ (lt-ltb _ _ h)
 dial_or k (inr h) = or_right _ _ (lt-ltb _ _ h)
 
 dial_sound : (c : Call) → strange_dial c ≡ true → StrangeDial c
-dial_sound (Open s d t) h = absurd (false≢true h)
-dial_sound (Modify s d t) h = absurd (false≢true h)
-dial_sound (End s d) h = absurd (false≢true h)
-dial_sound (Correct s d t) h = absurd (false≢true h)
-dial_sound (Enter s k d v) h = dial_either k h
-dial_sound (Strike s k d) h = dial_either k h
+dial_sound c h = grind (arith, nat_tests)
 
 dial_tested : (c : Call) → StrangeDial c → strange_dial c ≡ true
-dial_tested (Open s d t) h = absurd h
-dial_tested (Modify s d t) h = absurd h
-dial_tested (End s d) h = absurd h
-dial_tested (Correct s d t) h = absurd h
-dial_tested (Enter s k d v) h = dial_or k h
-dial_tested (Strike s k d) h = dial_or k h
+dial_tested c h = grind (arith, nat_tests)
 
 full_sound : (u : Setup) (m : Contents) (c : Call) → is_full u m c ≡ true → Applies u m c 11
-full_sound u m (Open s d t) h = situations_full tt (leb-true _ _ h)
-full_sound u m (Modify s d t) h = situations_full tt (leb-true _ _ h)
-full_sound u m (End s d) h = absurd (false≢true h)
-full_sound u m (Correct s d t) h = absurd (false≢true h)
-full_sound u m (Enter s k d v) h = absurd (false≢true h)
-full_sound u m (Strike s k d) h = absurd (false≢true h)
+full_sound u m c h = grind (arith, nat_tests, situations_full)
 
 full_tested : (u : Setup) (m : Contents) (c : Call) → OneMore c → u.situation_places ≤ m.situations → is_full u m c ≡ true
-full_tested u m (Open s d t) o h = le-leb _ _ h
-full_tested u m (Modify s d t) o h = le-leb _ _ h
-full_tested u m (End s d) o h = absurd o
-full_tested u m (Correct s d t) o h = absurd o
-full_tested u m (Enter s k d v) o h = absurd o
-full_tested u m (Strike s k d) o h = absurd o
+full_tested u m c o h = grind (arith, nat_tests)
 
 -- what is asked of an entry
 enter_sound : (u : Setup) (m : Contents) (j : ℕ) (p : ℕ → ℕ → ℕ → ℕ → Bool) → ((s k d v : ℕ) → p s k d v ≡ true → Applies u m (Enter s k d v) j) → (c : Call) → of_enter p c ≡ true → Applies u m c j
-enter_sound u m j p each (Open s d t) h = absurd (false≢true h)
-enter_sound u m j p each (Modify s d t) h = absurd (false≢true h)
-enter_sound u m j p each (End s d) h = absurd (false≢true h)
-enter_sound u m j p each (Correct s d t) h = absurd (false≢true h)
-enter_sound u m j p each (Enter s k d v) h = each s k d v h
-enter_sound u m j p each (Strike s k d) h = absurd (false≢true h)
+enter_sound u m j p each c h = grind (arith, each)
 
 correct_sound : (u : Setup) (m : Contents) (c : Call) → nothing_to_correct m c ≡ true → Applies u m c 10
-correct_sound u m (Open s d t) h = absurd (false≢true h)
-correct_sound u m (Modify s d t) h = absurd (false≢true h)
-correct_sound u m (End s d) h = absurd (false≢true h)
-correct_sound u m (Correct s d t) h = correct_none (none_of (m.situation s d) (not-true _ h))
-correct_sound u m (Enter s k d v) h = absurd (false≢true h)
-correct_sound u m (Strike s k d) h = absurd (false≢true h)
+correct_sound u m c h = grind (arith, correct_none)
 
 strike_sound : (u : Setup) (m : Contents) (c : Call) → nothing_to_strike m c ≡ true → Applies u m c 17
-strike_sound u m (Open s d t) h = absurd (false≢true h)
-strike_sound u m (Modify s d t) h = absurd (false≢true h)
-strike_sound u m (End s d) h = absurd (false≢true h)
-strike_sound u m (Correct s d t) h = absurd (false≢true h)
-strike_sound u m (Enter s k d v) h = absurd (false≢true h)
-strike_sound u m (Strike s k d) h = strike_none (none_of (m.index s k d) (not-true _ h))
+strike_sound u m c h = grind (arith, strike_none)
 
 module _ (n : ℕ) (u : Setup) (m : Contents) (w : Within n m) where
   how : (s : ℕ) → Stands (m.situation s) (standing n m s)
@@ -185,41 +130,13 @@ module _ (n : ℕ) (u : Setup) (m : Contents) (w : Within n m) where
   at s z e = subst (Stands (m.situation s)) e (how s)
 
   by_7 : (c : Call) (z : Standing) → standing n m (site_of c) ≡ z → opened_running z c ≡ true → Applies u m c 7
-  by_7 (Open s d t) Never e h = absurd (false≢true h)
-  by_7 (Open s d t) (Running b) e h = open_running (at s (Running b) e)
-  by_7 (Open s d t) (Ended b x) e h = absurd (false≢true h)
-  by_7 (Modify s d t) z e h = absurd (false≢true h)
-  by_7 (End s d) z e h = absurd (false≢true h)
-  by_7 (Correct s d t) z e h = absurd (false≢true h)
-  by_7 (Enter s k d v) z e h = absurd (false≢true h)
-  by_7 (Strike s k d) z e h = absurd (false≢true h)
+  by_7 c z e h = let a = at (site_of c) z e in grind (arith, open_running)
 
   by_8 : (c : Call) (z : Standing) → standing n m (site_of c) ≡ z → not_served z c ≡ true → Applies u m c 8
-  by_8 (Open s d t) z e h = absurd (false≢true h)
-  by_8 (Modify s d t) Never e h = modify_never (at s Never e)
-  by_8 (Modify s d t) (Running b) e h = absurd (false≢true h)
-  by_8 (Modify s d t) (Ended b x) e h = modify_ended (at s (Ended b x) e)
-  by_8 (End s d) Never e h = end_never (at s Never e)
-  by_8 (End s d) (Running b) e h = absurd (false≢true h)
-  by_8 (End s d) (Ended b x) e h = absurd (false≢true h)
-  by_8 (Correct s d t) z e h = absurd (false≢true h)
-  by_8 (Enter s k d v) z e h = absurd (false≢true h)
-  by_8 (Strike s k d) z e h = absurd (false≢true h)
+  by_8 c z e h = let a = at (site_of c) z e in grind (arith, modify_never, modify_ended, end_never)
 
   by_9 : (c : Call) (z : Standing) → standing n m (site_of c) ≡ z → unfit_day z c ≡ true → Applies u m c 9
-  by_9 (Open s d t) Never e h = absurd (false≢true h)
-  by_9 (Open s d t) (Running b) e h = absurd (false≢true h)
-  by_9 (Open s d t) (Ended b x) e h = open_early (at s (Ended b x) e) (ltb-true _ _ h)
-  by_9 (Modify s d t) Never e h = absurd (false≢true h)
-  by_9 (Modify s d t) (Running b) e h = modify_early (at s (Running b) e) (leb-true _ _ h)
-  by_9 (Modify s d t) (Ended b x) e h = absurd (false≢true h)
-  by_9 (End s d) Never e h = absurd (false≢true h)
-  by_9 (End s d) (Running b) e h = end_early (at s (Running b) e) (leb-true _ _ h)
-  by_9 (End s d) (Ended b x) e h =
-      ⊎_elim {C = Applies u m (End s d) 9} (λ (k : leb d b ≡ true). end_again_early (at s (Ended b x) e) (leb-true _ _ k)) (λ (k : leb x d ≡ true). end_again_late (at s (Ended b x) e) (leb-true _ _ k)) (or_cases _ _ h)
-  by_9 (Correct s d t) z e h = absurd (false≢true h)
-  by_9 (Enter s k d v) z e h = absurd (false≢true h)
-  by_9 (Strike s k d) z e h = absurd (false≢true h)
+  by_9 c z e h = let a = at (site_of c) z e in grind (arith, nat_tests, open_early, modify_early, end_early, end_again_early, end_again_late)
 
   crosses : (s k d v : ℕ) → crossed (m.index s k) d v n ≡ true → Applies u m (Enter s k d v) 15
   crosses s k d v t = let a = crossed_yes (m.index s k) d v n t in by a.0 a.1 a.1.how
