@@ -8,14 +8,6 @@ use Rattle.book_rules.specs.Contents.{Last, Stands, never, running, ended}
 use Rattle.book_rules.specs.Tests.{standing_by, standing_on}
 use Rattle.book_rules.proofs.Keys.{not_none}
 
-pub standing_none : (f : ℕ → Option Situation) → standing_by f 0 ≡ Never
-unfolding standing_by
-standing_none f = refl
-
-pub standing_more : (f : ℕ → Option Situation) (b : ℕ) → standing_by f (b + 1) ≡ standing_on (standing_by f b) b (f b)
-unfolding standing_by
-standing_more f b = rw add-one refl
-
 module _ (f : ℕ → Option Situation) where
   pub last_once : (b c : ℕ) (x y : Situation) → Last f b x → Last f c y → (b ≡ c) × (x ≡ y)
   last_once b c x y l k =
