@@ -1,23 +1,20 @@
 -- The first test that holds is the upper number that applies, for every call. Assumes nothing.
-use Rattle.std.proofs.Common.{◌≡◌, ℕ, zero, suc, ◌+◌, ◌<◌, ◌≤◌, Bool, true, false, cond, not, ◌&&◌, ◌||◌, eqb, ltb, leb, ◌⊎◌, is_some, is_ok, Some, None, Ok, Err, Option, sym, refl, ap, ◌∙◌, subst, inl, inr, ⊎_elim, add-one, arith}
-use Rattle.std.proofs.lemmas.Bool.{or_cases, or_left, or_right, leb-true, ltb-true, le-leb, lt-ltb, false≢true, not-true, cases_eq, cases_lt}
+use Rattle.std.proofs.Common.{◌≡◌, ℕ, zero, suc, ◌<◌, Bool, true, false, cond, not, ◌&&◌, ◌||◌, eqb, ◌⊎◌, is_ok, Some, None, Ok, Err, Option, sym, refl, subst, inl, inr, ⊎_elim, arith}
+use Rattle.std.proofs.lemmas.Bool.{or_cases, or_left, false≢true, not-true}
 use Rattle.std.proofs.lemmas.Bool.Decides.{nat_tests}
 use Rattle.refusals.specs.declared.Refusal.{Refusal}
 use Rattle.refusals.specs.declared.Refusal.TheVariants.{NoSuchProfile}
 use Rattle.profiles.specs.declared.Profile.TheVariants.{Res1, Res11, Res1We, Res11We, Res2}
 use Rattle.profiles.specs.Table.{between, profile_of}
-use Rattle.book_rules.specs.declared.Terms.{Terms}
 use Rattle.book_rules.specs.declared.Index.{Index}
 use Rattle.book_rules.specs.declared.Standing.{Standing}
 use Rattle.book_rules.specs.declared.Standing.TheVariants.{Never, Running, Ended}
 use Rattle.book_rules.specs.declared.Call.{Call}
-use Rattle.book_rules.specs.declared.Call.TheVariants.{Open, Modify, End, Correct, Enter, Strike}
+use Rattle.book_rules.specs.declared.Call.TheVariants.{Enter}
 use Rattle.book_rules.specs.Contents.{Setup, Contents, Stands}
-use Rattle.book_rules.specs.Refusing.{Applies, no_site, no_party, no_day, no_profile, open_running, modify_never, modify_ended, end_never, open_early, modify_early, end_early, end_again_early, end_again_late, correct_none, situations_full, no_dial, enter_large, enter_again, enter_below, enter_above, indexes_full, strike_none, OfTerms, Beyond, StrangeDial, OneMore, Rules, site_of}
-use Rattle.book_rules.specs.Tests.{first, against, crossed, standing, of_terms, beyond, opened_running, not_served, open_unfit, modify_unfit, end_unfit, unfit_day, nothing_to_correct, strange_dial, of_enter, nothing_to_strike, tests}
-use Rattle.book_rules.specs.Tests.{situations_full as is_full}
+use Rattle.book_rules.specs.Refusing.{Applies, no_site, no_party, no_day, no_profile, open_running, modify_never, modify_ended, end_never, open_early, modify_early, end_early, end_again_early, end_again_late, correct_none, situations_full, no_dial, enter_large, enter_again, enter_below, enter_above, indexes_full, strike_none, OfTerms, Rules, site_of}
+use Rattle.book_rules.specs.Tests.{first, against, crossed, standing, of_terms, of_enter, tests}
 use Rattle.book_rules.specs.Laws.{Within}
-use Rattle.book_rules.proofs.Keys.{not_none}
 use Rattle.book_rules.proofs.Upper.{tested, upper, Sound}
 use Rattle.book_rules.proofs.Standings.{stands_once, stands_by}
 
