@@ -1,5 +1,5 @@
 -- What stands at a key after a change at one key. Assumes nothing.
-use Rattle.std.proofs.Common.{◌≡◌, ℕ, cond, eqb, ◌⊎◌, Some, None, Option, arith}
+use Rattle.std.proofs.Common.{◌≡◌, ℕ, cond, eqb, ◌⊎◌, Some, None, Option, refl, arith}
 use Rattle.std.proofs.lemmas.Bool.{cases_eq}
 use Rattle.std.proofs.lemmas.Bool.Decides.{nat_tests}
 
@@ -9,6 +9,10 @@ not_none o p q = cc
 
 pub same_some : {X : Type 0} {x y : X} (o : Option X) → o ≡ Some x → o ≡ Some y → x ≡ y
 same_some o p q = cc
+
+pub nothing : {X : Type 0} (o : Option X) → ((x : X) → o ≡ Some x → ⊥) → o ≡ None
+nothing None h = refl
+nothing (Some x) h = absurd (h x refl)
 
 -- at the key that was changed stands the new one, elsewhere the old one
 pub record Changed {X : Type 0} (d : ℕ) (new : Option X) (old changed : ℕ → Option X) : Type 0 where

@@ -1,11 +1,10 @@
 -- Every history tells one content. Assumes nothing.
-use Rattle.std.proofs.Common.{◌≡◌, ℕ, cond, ◌&&◌, eqb, List, [], ◌∷◌, ◌++◌, length, Some, None, Option, sym, refl, ap, ◌∙◌, subst, arith, length-append}
+use Rattle.std.proofs.Common.{◌≡◌, ℕ, List, [], ◌∷◌, ◌++◌, length, Some, None, Option, sym, refl, ap, ◌∙◌, subst, arith, length-append}
 use mathlib.Core.Path.{fun_ext}
 use Rattle.std.proofs.lemmas.List.{same_from_push}
-use Rattle.book_rules.specs.declared.Situation.{Situation}
 use Rattle.book_rules.specs.declared.Call.{Call}
 use Rattle.book_rules.specs.Contents.{Setup, Contents}
-use Rattle.book_rules.specs.Telling.{Acts, opens, modifies, ends, corrects, enters, strikes, begun, ended_on, Step, Empty, Told, at_first, after}
+use Rattle.book_rules.specs.Telling.{Acts, opens, modifies, ends, corrects, enters, strikes, Step, Empty, Told, at_first, after}
 use Rattle.book_rules.proofs.Keys.{same_some}
 use Rattle.book_rules.proofs.Standings.{last_once}
 
@@ -14,25 +13,18 @@ pub same_contents : (m n : Contents) → ((a b : ℕ) → m.situation a b ≡ n.
 same_contents m n s t i j = λ z. record { situation = fun_ext (λ a. fun_ext (λ b. s a b)) z; index = fun_ext (λ a. fun_ext (λ b. fun_ext (λ e. t a b e))) z; situations = i z; indexes = j z }
 
 acts_once : (m n o : Contents) (c : Call) → Acts m n c → Acts m o c → n ≡ o
-acts_once m n o c (opens f t q) (opens g v r) = same_contents n o (λ a b. f a b ∙ sym (g a b)) (λ a b e. q.0 a b e ∙ sym (r.0 a b e)) (omega arith) (q.1 ∙ sym r.1)
-acts_once m n o c (modifies {s} {d} {b} {t = k} {x} l f t q) (modifies {b = b'} {x = x'} l' g v r) =
+acts_once m n o c (opens f t q) (opens g v r) = same_contents n o (λ a b. let p = f a b in let h = g a b in cc) (λ a b e. let p = q.0 a b e in let h = r.0 a b e in cc) (omega arith) (cc)
+acts_once m n o c (modifies {s} {b} {x} l f t q) (modifies {b = b'} {x = x'} l' g v r) =
     let w = last_once (m.situation s) b b' x x' l l' in
-    same_contents n o
-    (λ a e. f a e ∙ (ap (λ (z : ℕ). cond (eqb s a && eqb d e) (Some (begun k)) (cond (eqb s a && eqb z e) (Some (ended_on d x)) (m.situation a e))) w.0
-    ∙ (ap (λ (z : Situation). cond (eqb s a && eqb d e) (Some (begun k)) (cond (eqb s a && eqb b' e) (Some (ended_on d z)) (m.situation a e))) w.1 ∙ sym (g a e))))
-    (λ a b e. q.0 a b e ∙ sym (r.0 a b e)) (omega arith) (q.1 ∙ sym r.1)
-acts_once m n o c (ends {s} {d} {b} {x} l f t q) (ends {b = b'} {x = x'} l' g v r) =
+    same_contents n o (λ a e. let p = f a e in let h = g a e in cc) (λ a b e. let p = q.0 a b e in let h = r.0 a b e in cc) (omega arith) (cc)
+acts_once m n o c (ends {s} {b} {x} l f t q) (ends {b = b'} {x = x'} l' g v r) =
     let w = last_once (m.situation s) b b' x x' l l' in
-    same_contents n o
-    (λ a e. f a e ∙ (ap (λ (z : ℕ). cond (eqb s a && eqb z e) (Some (ended_on d x)) (m.situation a e)) w.0
-    ∙ (ap (λ (z : Situation). cond (eqb s a && eqb b' e) (Some (ended_on d z)) (m.situation a e)) w.1 ∙ sym (g a e))))
-    (λ a b e. q.0 a b e ∙ sym (r.0 a b e)) (omega arith) (q.1 ∙ sym r.1)
-acts_once m n o c (corrects {s} {d} {t = k} {x} l f t q) (corrects {x = x'} l' g v r) =
+    same_contents n o (λ a e. let p = f a e in let h = g a e in cc) (λ a b e. let p = q.0 a b e in let h = r.0 a b e in cc) (omega arith) (cc)
+acts_once m n o c (corrects {s} {d} l f t q) (corrects l' g v r) =
     let w = same_some (m.situation s d) l l' in
-    same_contents n o (λ a e. f a e ∙ (ap (λ (z : Situation). cond (eqb s a && eqb d e) (Some (record { end = z.end; terms = k })) (m.situation a e)) w ∙ sym (g a e)))
-    (λ a b e. q.0 a b e ∙ sym (r.0 a b e)) (omega arith) (q.1 ∙ sym r.1)
-acts_once m n o c (enters f t q) (enters g v r) = same_contents n o (λ a b. q.0 a b ∙ sym (r.0 a b)) (λ a b e. f a b e ∙ sym (g a b e)) (q.1 ∙ sym r.1) (omega arith)
-acts_once m n o c (strikes f t q) (strikes g v r) = same_contents n o (λ a b. q.0 a b ∙ sym (r.0 a b)) (λ a b e. f a b e ∙ sym (g a b e)) (q.1 ∙ sym r.1) (omega arith)
+    same_contents n o (λ a e. let p = f a e in let h = g a e in cc) (λ a b e. let p = q.0 a b e in let h = r.0 a b e in cc) (omega arith) (cc)
+acts_once m n o c (enters f t q) (enters g v r) = same_contents n o (λ a b. let p = q.0 a b in let h = r.0 a b in cc) (λ a b e. let p = f a b e in let h = g a b e in cc) (cc) (omega arith)
+acts_once m n o c (strikes f t q) (strikes g v r) = same_contents n o (λ a b. let p = q.0 a b in let h = r.0 a b in cc) (λ a b e. let p = f a b e in let h = g a b e in cc) (cc) (omega arith)
 
 step_once : (u : Setup) (m n o : Contents) (c : Call) (j k : Option ℕ) → Step u m c j n → Step u m c k o → n ≡ o
 step_once u m n o c (Some j) (Some k) s t = s.1 ∙ sym t.1

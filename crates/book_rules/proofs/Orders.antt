@@ -1,7 +1,8 @@
 -- After any calls situations and indexes are in order. Assumes nothing.
-use Rattle.std.proofs.Common.{◌≡◌, ℕ, ◌<◌, ◌≤◌, Bool, true, false, cond, ◌&&◌, eqb, ◌⊎◌, Some, None, Err, Option, sym, refl, ap, ◌∙◌, subst, inl, inr, ⊎_elim, arith}
+use Rattle.std.proofs.Common.{◌≡◌, ℕ, ◌<◌, ◌≤◌, true, false, cond, ◌&&◌, eqb, ◌⊎◌, Some, None, Err, Option, sym, refl, ◌∙◌, subst, inl, inr, ⊎_elim, arith}
 use mathlib.Core.Path.{fun_ext}
-use Rattle.std.proofs.lemmas.Bool.{cases_lt, cases_eq, cases_Bool, eq-eqb, ne_eqb, eqb-true, cond-true, cond-false, and_left, and_right, and_parts}
+use Rattle.std.proofs.lemmas.Bool.{cases_eq, cases_Bool, eqb-true, cond-false, and_parts}
+use Rattle.std.proofs.lemmas.Bool.Decides.{nat_tests}
 use Rattle.refusals.specs.declared.Refusal.TheVariants.{NoSuchProfile}
 use Rattle.profiles.specs.Table.{profile_of}
 use Rattle.book_rules.specs.declared.Terms.{Terms}
@@ -15,33 +16,26 @@ use Rattle.book_rules.specs.Refusing.{Applies, no_site, no_party, no_day, no_pro
 use Rattle.book_rules.specs.Telling.{Situated, Indexed, SameSituations, SameIndexes, Acts, opens, modifies, ends, corrects, enters, strikes, begun, ended_on, at_first, after}
 use Rattle.book_rules.specs.Laws.{Chain, Track, KnownSituation, KnownDial, Orderly, AlwaysOrderly}
 use Rattle.book_rules.specs.Tests.{standing_by}
-use Rattle.book_rules.proofs.Keys.{not_none, same_some, Changed, changed_by}
+use Rattle.book_rules.proofs.Keys.{not_none, nothing, Changed, changed_by}
 use Rattle.book_rules.proofs.Chains.{Free, chain_open, chain_end, free_after, chain_correct, free_ended, track_enter, track_strike, chain_none, track_none}
 use Rattle.book_rules.proofs.Standings.{stands_by}
 
 under : (a b : ℕ) → (b ≤ a → ⊥) → a < b
-under a b h = ⊎_elim {C = a < b} (λ (x : a < b). x) (λ (x : b ≤ a). absurd (h x)) (cases_lt a b)
+under a b h = omega arith
 
 at_most : (a b : ℕ) → (b < a → ⊥) → a ≤ b
-at_most a b h = ⊎_elim {C = a ≤ b} (λ (x : b < a). absurd (h x)) (λ (x : a ≤ b). x) (cases_lt b a)
-
-here : (s : ℕ) (b : Bool) → (eqb s s && b) ≡ b
-here s b = ap (λ x. x && b) (eq-eqb s s refl)
+at_most a b h = omega arith
 
 module _ (m n : Contents) (s d : ℕ) (x : Situation) (f : Situated m n s d x) where
   at_site : Changed d (Some x) (m.situation s) (n.situation s)
-  at_site = changed_by d (Some x) (m.situation s) (n.situation s) (λ b. f s b ∙ ap (λ v. cond v (Some x) (m.situation s b)) (here s (eqb d b)))
+  at_site = changed_by d (Some x) (m.situation s) (n.situation s) (λ b. let e = f s b in grind (arith, nat_tests))
 
   off_site : (a : ℕ) → (a ≡ s → ⊥) → n.situation a ≡ m.situation a
-  off_site a ne = fun_ext (λ b. f a b ∙ cond-false _ _ _ (and_left _ _ (ne_eqb s a (λ e. ne (sym e)))))
+  off_site a ne = fun_ext (λ b. let e = f a b in grind (arith, nat_tests))
 
   -- what is held now is the new one or was held before
   situated : (a b : ℕ) (y : Situation) → n.situation a b ≡ Some y → ((a ≡ s) × (x ≡ y)) ⊎ (m.situation a b ≡ Some y)
-  situated a b y h =
-      ⊎_elim {C = ((a ≡ s) × (x ≡ y)) ⊎ (m.situation a b ≡ Some y)}
-      (λ (e : (eqb s a && eqb d b) ≡ true). inl (sym (eqb-true s a (and_parts _ _ e).0), same_some (n.situation a b) (f a b ∙ cond-true _ _ _ e) h))
-      (λ (e : (eqb s a && eqb d b) ≡ false). inr (sym (f a b ∙ cond-false _ _ _ e) ∙ h))
-      (cases_Bool (eqb s a && eqb d b))
+  situated a b y h = let e = f a b in grind (arith, nat_tests)
 
   -- a chain at the site makes chains everywhere
   chains_from : (u : Setup) → Orderly u m → Chain u.days (n.situation s) → (a : ℕ) → Chain u.days (n.situation a)
@@ -74,17 +68,10 @@ module _ (m n : Contents) (same : SameSituations m n) where
 
 module _ (m n : Contents) (s k d : ℕ) (x : Option Index) (f : Indexed m n s k d x) where
   at_dial : Changed d x (m.index s k) (n.index s k)
-  at_dial = changed_by d x (m.index s k) (n.index s k) (λ e. f s k e ∙ ap (λ v. cond v x (m.index s k e)) (here s (eqb k k && eqb d e) ∙ here k (eqb d e)))
+  at_dial = changed_by d x (m.index s k) (n.index s k) (λ e. let h = f s k e in grind (arith, nat_tests))
 
   off_dial : (a b : ℕ) → ((a ≡ s) × (b ≡ k) → ⊥) → n.index a b ≡ m.index a b
-  off_dial a b ne = fun_ext (λ e. f a b e ∙ cond-false _ _ _ (other e))
-    where
-      other : (e : ℕ) → (eqb s a && (eqb k b && eqb d e)) ≡ false
-      other e =
-          ⊎_elim {C = (eqb s a && (eqb k b && eqb d e)) ≡ false}
-          (λ (p : a ≡ s). and_right _ _ (and_left _ _ (ne_eqb k b (λ q. ne (p, sym q)))))
-          (λ (p : a ≡ s → ⊥). and_left _ _ (ne_eqb s a (λ q. p (sym q))))
-          (cases_eq a s)
+  off_dial a b ne = fun_ext (λ e. let h = f a b e in grind (arith, nat_tests))
 
   tracks_from : (u : Setup) → Orderly u m → Track u.days (n.index s k) → (a b : ℕ) → Track u.days (n.index a b)
   tracks_from u o tr a b =
@@ -114,11 +101,7 @@ may_open u m s d t o none = by (standing_by f u.days) (stands_by f u.days past)
     f = m.situation s
 
     past : (c : ℕ) → u.days ≤ c → m.situation s c ≡ None
-    past c le = none_at (m.situation s c) refl
-      where
-        none_at : (z : Option Situation) → m.situation s c ≡ z → m.situation s c ≡ None
-        none_at None e = e
-        none_at (Some x) e = absurd (omega (arith, (o.chains s).starts_within c x e))
+    past c le = nothing (m.situation s c) (λ x e. let w = (o.chains s).starts_within c x e in omega arith)
 
     by : (z : Standing) → Stands (m.situation s) z → Free (m.situation s) d
     by z (never p) = λ b x h. absurd (not_none (m.situation s b) h (p b))

@@ -1,5 +1,5 @@
 -- Every history tells some content. Assumes nothing.
-use Rattle.std.proofs.Common.{◌≡◌, ℕ, ◌+◌, ◌-◌, ◌≤◌, cond, ◌&&◌, eqb, List, [], ◌∷◌, ◌++◌, Some, None, Option, sym, refl, subst, append_assoc, append-nil, arith}
+use Rattle.std.proofs.Common.{◌≡◌, ℕ, ◌+◌, ◌-◌, cond, ◌&&◌, eqb, List, [], ◌∷◌, ◌++◌, Some, None, Option, sym, refl, subst, append_assoc, append-nil, arith}
 use Rattle.book_rules.specs.declared.Situation.{Situation}
 use Rattle.book_rules.specs.declared.Index.{Index}
 use Rattle.book_rules.specs.declared.Standing.{Standing}
@@ -10,21 +10,17 @@ use Rattle.book_rules.specs.Refusing.{Applies, modify_never, modify_ended, end_n
 use Rattle.book_rules.specs.Telling.{Acts, opens, modifies, ends, corrects, enters, strikes, begun, ended_on, Step, Told, at_first, after}
 use Rattle.book_rules.specs.Tests.{first, tests, standing_by}
 use Rattle.book_rules.specs.Laws.{Orderly, Within}
+use Rattle.book_rules.proofs.Keys.{nothing}
 use Rattle.book_rules.proofs.Standings.{stands_by}
 use Rattle.book_rules.proofs.Rulings.{rules}
 use Rattle.book_rules.proofs.Orders.{always_orderly}
 
 -- situations and indexes lie within the days
 pub within : (u : Setup) (m : Contents) → Orderly u m → Within (u.days + 1) m
-within u m o = record { situations = λ s b h. situation_at s b h (m.situation s b) refl; indexes = λ s k d h. index_at s k d h (m.index s k d) refl }
-  where
-    situation_at : (s b : ℕ) → u.days + 1 ≤ b → (z : Option Situation) → m.situation s b ≡ z → m.situation s b ≡ None
-    situation_at s b h None e = e
-    situation_at s b h (Some x) e = absurd (omega (arith, (o.chains s).starts_within b x e))
-
-    index_at : (s k d : ℕ) → u.days + 1 ≤ d → (z : Option Index) → m.index s k d ≡ z → m.index s k d ≡ None
-    index_at s k d h None e = e
-    index_at s k d h (Some x) e = absurd (omega (arith, (o.tracks s k).within d x e))
+within u m o = record {
+  situations = λ s b h. nothing (m.situation s b) (λ x e. let w = (o.chains s).starts_within b x e in omega arith);
+  indexes = λ s k d h. nothing (m.index s k d) (λ x e. let w = (o.tracks s k).within d x e in omega arith);
+}
 
 -- a change of one situation, or of one index
 situated : Contents → (ℕ → ℕ → Option Situation) → ℕ → Contents

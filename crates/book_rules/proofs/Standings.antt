@@ -1,31 +1,16 @@
 -- How a site stands: computed, and one way only. Assumes nothing.
-use Rattle.std.proofs.Common.{◌≡◌, ℕ, zero, suc, ◌+◌, ◌<◌, ◌≤◌, ◌⊎◌, Some, None, Option, sym, refl, ap, ◌∙◌, ⊎_elim, add-one, arith}
+use Rattle.std.proofs.Common.{◌≡◌, ℕ, zero, suc, ◌<◌, ◌≤◌, Some, None, Option, sym, refl, ap, ◌∙◌, ⊎_elim, arith}
 use Rattle.std.proofs.lemmas.Bool.{cases_order, cases_eq}
 use Rattle.book_rules.specs.declared.Situation.{Situation}
 use Rattle.book_rules.specs.declared.Standing.{Standing}
-use Rattle.book_rules.specs.declared.Standing.TheVariants.{Never, Running, Ended}
+use Rattle.book_rules.specs.declared.Standing.TheVariants.{Running, Ended}
 use Rattle.book_rules.specs.Contents.{Last, Stands, never, running, ended}
 use Rattle.book_rules.specs.Tests.{standing_by, standing_on}
 use Rattle.book_rules.proofs.Keys.{not_none}
 
-pub standing_none : (f : ℕ → Option Situation) → standing_by f 0 ≡ Never
-unfolding standing_by
-standing_none f = refl
-
-pub standing_more : (f : ℕ → Option Situation) (b : ℕ) → standing_by f (b + 1) ≡ standing_on (standing_by f b) b (f b)
-unfolding standing_by
-standing_more f b = rw add-one refl
-
 module _ (f : ℕ → Option Situation) where
   pub last_once : (b c : ℕ) (x y : Situation) → Last f b x → Last f c y → (b ≡ c) × (x ≡ y)
-  last_once b c x y l k =
-      ⊎_elim {C = (b ≡ c) × (x ≡ y)}
-      (λ (e : b ≡ c). let h = l.starts in let g = k.starts in let i = ap f e in (e, (cc)))
-      (λ (o : (b < c) ⊎ (c < b)).
-      ⊎_elim {C = (b ≡ c) × (x ≡ y)}
-      (λ (h : b < c). absurd (not_none (f c) k.starts (l.none_later c h)))
-      (λ (h : c < b). absurd (not_none (f b) l.starts (k.none_later b h))) o)
-      (cases_order b c)
+  last_once b c x y l k = let o = cases_order b c in let h = l.none_later c in let g = k.none_later b in let i = l.starts in let j = k.starts in grind arith
 
   pub stands_once : (t z : Standing) → Stands f t → Stands f z → t ≡ z
   stands_once t z (never p) (never q) = refl

@@ -1,5 +1,5 @@
 -- Calls with their answers tell what the calls tell. Assumes nothing.
-use Rattle.std.proofs.Common.{◌≡◌, List, [], ◌∷◌, ◌++◌, Result, sym, subst}
+use Rattle.std.proofs.Common.{◌≡◌, List, [], ◌∷◌, ◌++◌, Result, subst}
 use Rattle.refusals.specs.declared.Refusal.{Refusal}
 use Rattle.book_rules.specs.declared.Call.{Call}
 use Rattle.book_rules.specs.Contents.{Setup, Contents}
@@ -18,5 +18,4 @@ pub one_call : (u : Setup) (h k : List Call) (rs qs : List (Result (Unit {0}) Re
     → setup b ≡ u → Made b c r a → k ≡ h ++ c ∷ [] → qs ≡ rs ++ r ∷ [] → Answered u h rs (contents b) → Answered u k qs (contents a)
 one_call u h k rs qs c r b a e made p q t =
     let s = subst (λ (z : Setup). Step z (contents b) c (answered r) (contents a)) e made.step in
-    subst (λ (l : List Call). Answered u l qs (contents a)) (sym p)
-    (subst (λ (l : List (Result (Unit {0}) Refusal)). Answered u (h ++ c ∷ []) l (contents a)) (sym q) (after h rs c r (contents b) (contents a) t s))
+    rw (p, q) (after h rs c r (contents b) (contents a) t s)

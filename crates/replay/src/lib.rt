@@ -21,6 +21,7 @@ pub fn replayed(heap: Global, set_up: SetUp, calls: &[Call]) -> Result<ReplayedB
 {
     let mut book = Book::new(heap, set_up)?;
     let mut answers = Vec::with_capacity(heap, calls.len())?;
+    // As a chain it does not prove: of a closure that changes the book it captures, no answer is known afterwards.
     for call in calls {
         answers.push(book.make(*call))?;
     }

@@ -1,8 +1,5 @@
-use Rattle.std.proofs.Common.{List, [], take, vec_items, Result, sym, refl, ◌∙◌, subst, take_all}
+use Rattle.std.proofs.Common.{[], take, vec_items, refl, ◌∙◌, take_all}
 use Rattle.std.proofs.lemmas.List.{take_more}
-use Rattle.refusals.specs.declared.Refusal.{Refusal}
-use Rattle.book_rules.specs.declared.Call.{Call}
-use Rattle.book_rules.specs.Contents.{Setup}
 use Rattle.book_rules.specs.Telling.{Told}
 use Rattle.book.specs.Books.{setup, contents, as_set}
 use Rattle.replay.specs.Replaying.{Answered, at_first}
@@ -12,7 +9,7 @@ use Rattle.replay.proofs.replayed.Goals as goal
 pub loop-call-init : goal.loop-call-init
 loop-call-init c =
     let b = c.in_ok-book.book in
-    (refl, λ t. subst (λ (l : List (Result (Unit {0}) Refusal)). Answered (setup b) [] l (contents b)) (sym c.in_ok-answers.ensures.items) (at_first (contents b) t))
+    (refl, λ t. rw c.in_ok-answers.ensures.items (at_first (contents b) t))
 
 pub loop-call-preserved : goal.loop-call-preserved
 loop-call-preserved c =
@@ -27,7 +24,6 @@ pub returns : goal.returns
 returns c =
     let b = c.loop-call.book in let calls = c.args.calls.now in let x = c.args.set_up in let rs = vec_items c.loop-call.answers in
     let fresh = c.in_ok-book.ensures in
-    let told = subst (λ (u : Setup). Told u [] (contents c.in_ok-book.book)) (sym fresh.1.0) fresh.1.1 in
-    let all = subst (λ (l : List Call). Answered (setup c.in_ok-book.book) l rs (contents b)) (take_all _ calls c.loop-call-test.false) (c.loop-call.invariant.1 told) in
-    let a = subst (λ (u : Setup). Answered u calls rs (contents b)) fresh.1.0 all in
+    let told : Told (setup c.in_ok-book.book) [] (contents c.in_ok-book.book) = rw fresh.1.0 fresh.1.1 in
+    let a : Answered (as_set x) calls rs (contents b) = rw (take_all _ calls c.loop-call-test.false, fresh.1.0) at (c.loop-call.invariant.1 told) in
     (fresh.0, (c.loop-call.invariant.0 ∙ fresh.1.0, (told_of (as_set x) calls rs (contents b) a, a)))
