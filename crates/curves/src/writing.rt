@@ -5,6 +5,7 @@ ghost use Rattle.judgements.specs.Judgements.{meaning};
 ghost use Rattle.curves.specs.Asking.{half_hours};
 ghost use Rattle.curves.specs.Writing.{SpanWritten, SpansWritten, SharedOut, Cleared};
 
+use crate::half_hours_of;
 use judgements::MeteredDial;
 use sharing::Sharing;
 use sources::ProfileSource;
@@ -22,18 +23,18 @@ fn share_out(energy: u32, all: u64, weights: &[u32], figures: &mut [u32])
 
 // Writes the figures of a span of a dial.
 fn write_span<S: ProfileSource>(
-    of: &MeteredDial<'_, S>,
+    metered: &MeteredDial<'_, S>,
     span: DialSpan,
     weights: &mut [u32; 1680],
     figures: &mut [u32],
 )
     requires forward { span.from < span.to }
     requires few { span.to ≤ 35 }
-    requires covered { 48 * span.to ≤ S.covers of.now.source.now }
+    requires covered { 48 * span.to ≤ S.covers metered.now.source.now }
     requires places { 48 * span.to ≤ length figures.old }
-    ensures { SpanWritten (meaning S.weighs of.now) span.from span.to span.energy figures.old figures.new }
+    ensures { SpanWritten (meaning S.weighs metered.now) span.from span.to span.energy figures.old figures.new }
 {
-    let judgement = of.judge(span, weights);
+    let judgement = metered.judge(span, weights);
     share_out(
         span.energy,
         judgement.all,
@@ -51,16 +52,16 @@ fn clear(figures: &mut [u32], count: usize)
 }
 
 // Writes the figures of all spans of a dial, and 0 outside them.
-pub(crate) fn write_curve<S: ProfileSource>(of: &MeteredDial<'_, S>, figures: &mut [u32])
-    requires covered { half_hours (setup of.now.at.book.now) ≤ S.covers of.now.source.now }
-    requires places { half_hours (setup of.now.at.book.now) ≤ length figures.old }
-    ensures { SpansWritten (meaning S.weighs of.now) (setup of.now.at.book.now).days (setup of.now.at.book.now).days figures.old figures.new }
+pub(crate) fn write_curve<S: ProfileSource>(metered: &MeteredDial<'_, S>, figures: &mut [u32])
+    requires covered { half_hours (setup metered.now.at.book.now) ≤ S.covers metered.now.source.now }
+    requires places { half_hours (setup metered.now.at.book.now) ≤ length figures.old }
+    ensures { SpansWritten (meaning S.weighs metered.now) (setup metered.now.at.book.now).days (setup metered.now.at.book.now).days figures.old figures.new }
 {
     let mut weights = [0u32; 1680];
-    clear(figures, 48 * of.at.book.days() as usize);
-    for day in 0..of.at.book.days() {
-        if let Some(span) = of.at.span_beginning(day) {
-            write_span(of, span, &mut weights, figures);
+    clear(figures, half_hours_of(metered.at.book));
+    for day in 0..metered.at.book.days() {
+        if let Some(span) = metered.at.span_beginning(day) {
+            write_span(metered, span, &mut weights, figures);
         }
     }
 }

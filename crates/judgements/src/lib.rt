@@ -10,6 +10,7 @@ use sources::ProfileSource;
 use spans::{Anomaly, DialSpan, SiteDial};
 
 // What decides on the energy of a dial: a dial of a site in a book, a source of weights and a threshold set.
+#[derive(Drop)]
 pub struct MeteredDial<'a, S> {
     pub at: SiteDial<'a>,
     pub source: &'a S,
@@ -67,10 +68,9 @@ impl<S: ProfileSource> MeteredDial<'_, S> {
         Ok((grounds.party, sum))
     }
 
-    // The places are a fixed array of the caller's, as there is no heap here and a span is at most 35 days long.
     // Judges a span of the dial, and writes the weights by which its energy is shared into the places of its half-hours:
     // the source's for the party of the one situation that its days lie in, or 1 each for its first anomaly. A span past
-    // day 35 is judged up to there.
+    // day 35 is judged up to there. The places are an array of the caller's: no call here needs a heap.
     pub fn judge(&self, span: DialSpan, weights: &mut [u32; 1680]) -> Judgement
         ensures { span.from < span.to → span.to ≤ 35 → 48 * span.to ≤ S.covers self.now.source.now → JudgedSo (meaning S.weighs self.now) span.from span.to span.energy weights.new result }
     {
