@@ -2,3 +2,4 @@ pub mod Situations
 pub mod Judged
 pub mod Seen
 pub mod Around
+pub mod Beginning

@@ -8,6 +8,11 @@ use Rattle.spans.specs.declared.DialSpan.{DialSpan}
 abbrev pub track : Contents → ℕ → ℕ → ℕ → Option ℕ
 track m site dial d = bounding (m.index site dial d)
 
+-- The span from an index of day a to the one that stands on day b, if one does.
+abbrev pub ending : Option ℕ → ℕ → ℕ → ℕ → Option DialSpan
+ending None a u b = None
+ending (Some v) a u b = Some (record { from = a; to = b; energy = v - u })
+
 -- It runs from its first day to its last, which is no later than the end of the days, and has the energy between.
 pub record Found (on : ℕ → Option ℕ) (days day : ℕ) (s : DialSpan) : Type 0 where
   pub u : ℕ

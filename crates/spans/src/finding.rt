@@ -1,7 +1,7 @@
 // Finding the spans of a dial.
 ghost use Rattle.std.specs.Prelude.{◌≡◌};
 ghost use Rattle.book.specs.Books.{setup, contents};
-ghost use Rattle.spans.specs.Finding.{track, Begins, HoldingDay, DaysTold, WithinDays, running_past, seen_with};
+ghost use Rattle.spans.specs.Finding.{track, ending, Begins, HoldingDay, DaysTold, WithinDays, running_past, seen_with};
 
 use crate::{DialSpan, SiteDial};
 
@@ -32,6 +32,18 @@ impl SiteDial<'_> {
         Some(index.value)
     }
 
+    // The span from a day, with its index there, to another day, if an index stands on that.
+    fn span_to(&self, from: u8, first: u32, to: u8) -> Option<DialSpan>
+        ensures { result ≡ ending (track (contents self.now.book.now) self.now.site self.now.dial to) from first to }
+    {
+        let last = self.bound_on(to)?;
+        Some(DialSpan {
+            from,
+            to,
+            energy: last.saturating_sub(first),
+        })
+    }
+
     // The span that begins on a day: from the index of that day to the next one, if both stand.
     pub fn span_beginning(&self, day: u8) -> Option<DialSpan>
         ensures { Begins (track (contents self.now.book.now) self.now.site self.now.dial) (setup self.now.book.now).days day result }
@@ -40,16 +52,7 @@ impl SiteDial<'_> {
             return None;
         }
         let first = self.bound_on(day)?;
-        for to in day + 1..self.book.days() + 1 {
-            if let Some(last) = self.bound_on(to) {
-                return Some(DialSpan {
-                    from: day,
-                    to,
-                    energy: last.saturating_sub(first),
-                });
-            }
-        }
-        None
+        (day + 1..self.book.days() + 1).find_map(|to| self.span_to(day, first, to))
     }
 
     // The span around a day: the one of whose days that is one.
