@@ -1,6 +1,5 @@
 -- The span that begins on a day, from what the days after it gave in turn. Assumes nothing.
-use Rattle.std.proofs.Common.{◌≡◌, ℕ, ◌+◌, ◌-◌, ◌<◌, ◌≤◌, Some, None, Option, sym, refl, ap, ◌∙◌, subst, arith}
-use Rattle.span_rules.specs.Spans.{Span}
+use Rattle.std.proofs.Common.{◌≡◌, ℕ, ◌+◌, ◌-◌, ◌<◌, Some, None, Option, sym, refl, subst, arith}
 use Rattle.span_rules.proofs.Tracks.{differ}
 use Rattle.spans.specs.declared.DialSpan.{DialSpan}
 use Rattle.spans.specs.Finding.{ending, Found, Begins}

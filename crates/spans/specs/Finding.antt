@@ -1,5 +1,5 @@
 -- The span of a dial that begins on a day.
-use Rattle.std.specs.Prelude.{◌≡◌, ℕ, ◌-◌, ◌<◌, ◌≤◌, Bool, false, Some, None, Option, nat_lt}
+use Rattle.std.specs.Prelude.{◌≡◌, ℕ, ◌-◌, ◌<◌, ◌≤◌, cond, Some, None, Option, nat_lt}
 use Rattle.book_rules.specs.Contents.{Contents}
 use Rattle.span_rules.specs.Spans.{bounding, Span, Ends, Fewer}
 use Rattle.spans.specs.declared.DialSpan.{DialSpan}
@@ -41,9 +41,10 @@ abbrev pub HoldingDay : (ℕ → Option ℕ) → ℕ → ℕ → Option DialSpan
 HoldingDay on days day (Some s) = FoundAround on days day s
 HoldingDay on days day None = (a b u v : ℕ) → b ≤ days → Span on a b u v → a ≤ day → day < b → ⊥
 
-abbrev pub running_past : ℕ → Option DialSpan → Bool
-running_past day None = false
-running_past day (Some s) = nat_lt day s.to
+-- The span that begins on day a, if it runs past another day.
+unfoldable pub RunsPast : (ℕ → Option ℕ) → ℕ → ℕ → ℕ → Option DialSpan → Type 0
+RunsPast on days day a (Some s) = Found on days a s × day < s.to
+RunsPast on days day a None = (b u v : ℕ) → b ≤ days → Span on a b u v → day < b → ⊥
 
 -- All indexes lie within the days.
 abbrev pub WithinDays : (ℕ → Option ℕ) → ℕ → Type 0
@@ -59,3 +60,8 @@ abbrev pub seen_with : ℕ → Option ℕ → Option (ℕ × ℕ) → Option (�
 seen_with day None seen = seen
 seen_with day (Some v) None = Some (day, day)
 seen_with day (Some v) (Some p) = Some (p.0, day)
+
+-- Those days, if they are two.
+abbrev pub two_of : Option (ℕ × ℕ) → Option (ℕ × ℕ)
+two_of None = None
+two_of (Some p) = cond (nat_lt p.0 p.1) (Some p) None

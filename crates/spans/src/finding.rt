@@ -1,16 +1,9 @@
 // Finding the spans of a dial.
 ghost use Rattle.std.specs.Prelude.{◌≡◌};
 ghost use Rattle.book.specs.Books.{setup, contents};
-ghost use Rattle.spans.specs.Finding.{track, ending, Begins, HoldingDay, DaysTold, WithinDays, running_past, seen_with};
+ghost use Rattle.spans.specs.Finding.{track, ending, Begins, HoldingDay, DaysTold, WithinDays, RunsPast, seen_with, two_of};
 
 use crate::{DialSpan, SiteDial};
-
-// Whether there is a span and it ends after a day.
-fn runs_past(span: Option<DialSpan>, day: u8) -> bool
-    ensures { result ≡ running_past day span }
-{
-    span.is_some_and(|span| span.to > day)
-}
 
 // The days of the first and the last index that were seen, with one more day looked at.
 fn seen_by(day: u8, index: Option<u32>, seen: Option<(u8, u8)>) -> Option<(u8, u8)>
@@ -21,6 +14,13 @@ fn seen_by(day: u8, index: Option<u32>, seen: Option<(u8, u8)>) -> Option<(u8, u
         (Some(_), None) => Some((day, day)),
         (Some(_), Some((first, _))) => Some((first, day)),
     }
+}
+
+// The days, if they are two.
+fn apart(seen: Option<(u8, u8)>) -> Option<(u8, u8)>
+    ensures { result ≡ two_of seen }
+{
+    seen.filter(|(first, last)| first < last)
 }
 
 impl SiteDial<'_> {
@@ -55,6 +55,14 @@ impl SiteDial<'_> {
         (day + 1..self.book.days() + 1).find_map(|to| self.span_to(day, first, to))
     }
 
+    // The span that begins on a day, if it runs past another.
+    #[tactic(auto, unfolding(crate::specs::Finding::RunsPast))]
+    fn span_past(&self, first: u8, day: u8) -> Option<DialSpan>
+        ensures { RunsPast (track (contents self.now.book.now) self.now.site self.now.dial) (setup self.now.book.now).days day first result }
+    {
+        self.span_beginning(first).filter(|span| span.to > day)
+    }
+
     // The span around a day: the one of whose days that is one.
     pub fn span_around(&self, day: u8) -> Option<DialSpan>
         ensures { HoldingDay (track (contents self.now.book.now) self.now.site self.now.dial) (setup self.now.book.now).days day result }
@@ -62,26 +70,17 @@ impl SiteDial<'_> {
         if day >= self.book.days() {
             return None;
         }
-        for first in 0..day + 1 {
-            let span = self.span_beginning(first);
-            if runs_past(span, day) {
-                return span;
-            }
-        }
-        None
+        (0..day + 1).find_map(|first| self.span_past(first, day))
     }
 
     // The days of the first and the last index; none where fewer than two stand.
     pub fn index_days(&self) -> Option<(u8, u8)>
         ensures { WithinDays (track (contents self.now.book.now) self.now.site self.now.dial) (setup self.now.book.now).days → DaysTold (track (contents self.now.book.now) self.now.site self.now.dial) result }
     {
-        let mut seen: Option<(u8, u8)> = None;
-        for day in 0..self.book.days() + 1 {
-            seen = seen_by(day, self.bound_on(day), seen);
-        }
-        match seen {
-            Some((first, last)) if first < last => seen,
-            _ => None,
-        }
+        let seen = (0..self.book.days() + 1).fold(
+            None,
+            |seen, day| seen_by(day, self.bound_on(day), seen),
+        );
+        apart(seen)
     }
 }

@@ -1,18 +1,22 @@
-use Rattle.std.proofs.Common.{sym, ◌∙◌, arith}
+use Rattle.std.proofs.Common.{◌≡◌, ℕ, ◌+◌, ◌<◌, Some, None, rules}
+use Rattle.std.proofs.lemmas.Option.{MatchOption-at_some}
+use Rattle.std.proofs.iter.runs.Sources.{ranges, range_listed}
 use Rattle.book.specs.Books.{setup, contents}
-use Rattle.spans.specs.Finding.{track}
-use Rattle.spans.proofs.Around.{missed_more, around_found}
+use Rattle.spans.specs.declared.DialSpan.{DialSpan}
+use Rattle.spans.specs.Finding.{track, RunsPast}
+use Rattle.spans.proofs.Around.{around_by}
 use Rattle.spans.proofs.SiteDial.span_around.Goals as goal
 
-pub loop-first-preserved : goal.loop-first-preserved
-loop-first-preserved c =
-    let b = c.args.self.now.book.now in
-    missed_more (track (contents b) c.args.self.now.site c.args.self.now.dial) (setup b).days c.args.day c.loop-first.first c.span_beginning-span.result c.span_beginning-span.ensures (sym c.runs_past.ensures ∙ c.if-runs_past.false) c.loop-first.invariant
-
-pub returns-then-runs_past : goal.returns-then-runs_past
-returns-then-runs_past c =
-    let b = c.args.self.now.book.now in
-    around_found (track (contents b) c.args.self.now.site c.args.self.now.dial) (setup b).days c.args.day c.loop-first.first c.span_beginning-span.result c.loop-first-test.true c.span_beginning-span.ensures (sym c.runs_past.ensures ∙ c.if-runs_past.true)
-
 pub returns : goal.returns
-returns c = λ a b u v le s begun past. c.loop-first.invariant a b u v (omega arith) le s past
+returns c =
+    let on = track (contents c.args.self.now.book.now) c.args.self.now.site c.args.self.now.dial in
+    let days = (setup c.args.self.now.book.now).days in
+    let run = c.find_map.ensures.runs in
+    let list = range_listed run.0 run.0.seen in
+    let missed : c.find_map.result ≡ None → (a : ℕ) → a < c.args.day + 1 → RunsPast on days c.args.day a None = λ e a lt. let turn = list.4.3 a in search (rules, ranges, turn, run) in
+    let found : (z : DialSpan) → c.find_map.result ≡ Some z → (a : ℕ) × (a < c.args.day + 1) × RunsPast on days c.args.day a (Some z) =
+    λ z e.
+    let m = MatchOption-at_some _ _ z e run.2 in
+    let turn = list.4.3 m.0 in
+    (m.0, search (rules, ranges, turn, m, run.1), search (rules, ranges, turn, m, run.1)) in
+    around_by on days c.args.day c.find_map.result missed found

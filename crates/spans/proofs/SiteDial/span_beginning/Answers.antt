@@ -1,7 +1,7 @@
-use Rattle.std.proofs.Common.{◌≡◌, ℕ, ◌+◌, ◌-◌, ◌<◌, ◌≤◌, Some, None, sym, subst, rules}
+use Rattle.std.proofs.Common.{◌≡◌, ℕ, ◌+◌, ◌<◌, Some, None, sym, subst, rules}
 use Rattle.std.proofs.lemmas.Option.{MatchOption-at_some}
 use Rattle.std.proofs.iter.runs.Sources.{ranges, range_listed}
-use Rattle.book.specs.Books.{setup, contents}
+use Rattle.book.specs.Books.{contents}
 use Rattle.spans.specs.declared.DialSpan.{DialSpan}
 use Rattle.spans.specs.Finding.{track, ending, Begins}
 use Rattle.spans.proofs.Beginning.{begins_by}
