@@ -1,12 +1,18 @@
 -- The span of a dial that begins on a day.
 use Rattle.std.specs.Prelude.{◌≡◌, ℕ, ◌-◌, ◌<◌, ◌≤◌, cond, Some, None, Option, nat_lt}
 use Rattle.book_rules.specs.Contents.{Contents}
+use Rattle.book.specs.Books.{contents}
 use Rattle.span_rules.specs.Spans.{bounding, Span, Ends, Fewer}
+use Rattle.spans.specs.declared.SiteDial.{SiteDial}
 use Rattle.spans.specs.declared.DialSpan.{DialSpan}
 
 -- The indexes of a dial that bound spans, by day.
 abbrev pub track : Contents → ℕ → ℕ → ℕ → Option ℕ
 track m site dial d = bounding (m.index site dial d)
+
+-- Those of a dial of a site in a book.
+abbrev pub indexes_of : SiteDial → ℕ → Option ℕ
+indexes_of d = track (contents d.book.now) d.site d.dial
 
 -- The span from an index of day a to the one that stands on day b, if one does.
 abbrev pub ending : Option ℕ → ℕ → ℕ → ℕ → Option DialSpan

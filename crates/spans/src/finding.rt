@@ -1,7 +1,7 @@
 // Finding the spans of a dial.
 ghost use Rattle.std.specs.Prelude.{◌≡◌};
-ghost use Rattle.book.specs.Books.{setup, contents};
-ghost use Rattle.spans.specs.Finding.{track, ending, Begins, HoldingDay, DaysTold, WithinDays, RunsPast, seen_with, two_of};
+ghost use Rattle.book.specs.Books.{setup};
+ghost use Rattle.spans.specs.Finding.{indexes_of, ending, Begins, HoldingDay, DaysTold, WithinDays, RunsPast, seen_with, two_of};
 
 use crate::{DialSpan, SiteDial};
 
@@ -26,7 +26,7 @@ fn apart(seen: Option<(u8, u8)>) -> Option<(u8, u8)>
 impl SiteDial<'_> {
     // The value of the index on a day, if one stands there that bounds spans.
     fn bound_on(&self, day: u8) -> Option<u32>
-        ensures { result ≡ track (contents self.now.book.now) self.now.site self.now.dial day }
+        ensures { result ≡ indexes_of self.now day }
     {
         let index = self.book.index_standing(self.site, self.dial, day)?;
         Some(index.value)
@@ -34,7 +34,7 @@ impl SiteDial<'_> {
 
     // The span from a day, with its index there, to another day, if an index stands on that.
     fn span_to(&self, from: u8, first: u32, to: u8) -> Option<DialSpan>
-        ensures { result ≡ ending (track (contents self.now.book.now) self.now.site self.now.dial to) from first to }
+        ensures { result ≡ ending (indexes_of self.now to) from first to }
     {
         let last = self.bound_on(to)?;
         Some(DialSpan {
@@ -46,7 +46,7 @@ impl SiteDial<'_> {
 
     // The span that begins on a day: from the index of that day to the next one, if both stand.
     pub fn span_beginning(&self, day: u8) -> Option<DialSpan>
-        ensures { Begins (track (contents self.now.book.now) self.now.site self.now.dial) (setup self.now.book.now).days day result }
+        ensures { Begins (indexes_of self.now) (setup self.now.book.now).days day result }
     {
         if day >= self.book.days() {
             return None;
@@ -58,14 +58,14 @@ impl SiteDial<'_> {
     // The span that begins on a day, if it runs past another.
     #[tactic(auto, unfolding(crate::specs::Finding::RunsPast))]
     fn span_past(&self, first: u8, day: u8) -> Option<DialSpan>
-        ensures { RunsPast (track (contents self.now.book.now) self.now.site self.now.dial) (setup self.now.book.now).days day first result }
+        ensures { RunsPast (indexes_of self.now) (setup self.now.book.now).days day first result }
     {
         self.span_beginning(first).filter(|span| span.to > day)
     }
 
     // The span around a day: the one of whose days that is one.
     pub fn span_around(&self, day: u8) -> Option<DialSpan>
-        ensures { HoldingDay (track (contents self.now.book.now) self.now.site self.now.dial) (setup self.now.book.now).days day result }
+        ensures { HoldingDay (indexes_of self.now) (setup self.now.book.now).days day result }
     {
         if day >= self.book.days() {
             return None;
@@ -75,7 +75,7 @@ impl SiteDial<'_> {
 
     // The days of the first and the last index; none where fewer than two stand.
     pub fn index_days(&self) -> Option<(u8, u8)>
-        ensures { WithinDays (track (contents self.now.book.now) self.now.site self.now.dial) (setup self.now.book.now).days → DaysTold (track (contents self.now.book.now) self.now.site self.now.dial) result }
+        ensures { WithinDays (indexes_of self.now) (setup self.now.book.now).days → DaysTold (indexes_of self.now) result }
     {
         let seen = (0..self.book.days() + 1).fold(
             None,

@@ -49,6 +49,7 @@ impl SiteDial<'_> {
         ensures { from < to → OneSituation ((contents self.now.book.now).situation self.now.site) from to result }
     {
         let mut latest: Option<(u8, Situation)> = None;
+        // a `for`, since it leaves at the first gap and keeps the last situation: a `try_fold` would say no less
         for day in 0..to {
             latest = latest_by(day, self.book.situation_starting(self.site, day), latest);
             if is_gap(from, day, latest) {
