@@ -68,8 +68,8 @@ module _ (b : Book) where
   allowed (Strike s k d) r = let f = failed_test (Strike s k d) r in record { known = omega (arith, leb-false _ _ (f 3)); kept = dial_kept k d (f 12) (f 5); situation_free = λ o. absurd o; index_free = λ o. absurd o; none = r }
 
 -- the site has served the call, and the places are counted
-pub acting : (b : Book) (c : Call) (s i j : ℕ) (x y : Site) → Allowed b c → s ≡ site_of c → x ≡ get_or (vec_items b.sites) s x → (IsKept c → Serves x y c) → i ≡ situations_after c b.situations.taken → j ≡ indexes_after c b.indexes.taken → Acts (contents b) (held (set (vec_items b.sites) s y) i j) c
+pub acting : (b : Book) (c : Call) (s i j : ℕ) (x y : Site) → Allowed b c → s ≡ site_of c → x ≡ get_or (vec_items b.sites) s x → Serves x y c → i ≡ situations_after c b.situations.taken → j ≡ indexes_after c b.indexes.taken → Acts (contents b) (held (set (vec_items b.sites) s y) i j) c
 acting b c s i j x y a e v h p q =
     let lt : s < length (vec_items b.sites) = omega (arith, a.known, e) in
     let w : x ≡ get_or (vec_items b.sites) (site_of c) no_site = rw e at (read (vec_items b.sites) s x lt v) in
-    acted (setup b) (vec_items b.sites) b.situations.taken b.indexes.taken x y c s i j e p q a.known w a.none (h a.kept)
+    acted (setup b) (vec_items b.sites) b.situations.taken b.indexes.taken x y c s i j e p q a.known w a.none h
