@@ -38,7 +38,7 @@ impl Places {
         self.taken += 1;
     }
 
-    // Frees a place, if one is taken.
+    // Frees a place: one less is taken, as the rules have it, and none stays none.
     pub(crate) fn give_back(&mut self)
         ensures most { self.new.most ≡ self.old.most }
         ensures taken { self.new.taken ≡ self.old.taken - 1 }

@@ -1,7 +1,7 @@
 // What is read off a site and what is put into it. The book has ruled on the call; nothing here refuses.
-ghost use Rattle.std.specs.Prelude.{◌≡◌, ℕ, ◌<◌, Ok};
+ghost use Rattle.std.specs.Prelude.{◌≡◌, ℕ, ◌<◌, false, Ok};
 ghost use Rattle.profiles.specs.Table.{dial_of};
-ghost use Rattle.book_rules.specs.Tests.{standing_on, standing_by};
+ghost use Rattle.book_rules.specs.Tests.{standing_on, standing_by, not_served};
 ghost use Rattle.book.specs.Sites.{starting, NoEntries, StandsAt, SameStarts, Serves, IsKept, dial_days};
 
 use crate::by_day::ByDay;
@@ -61,9 +61,10 @@ impl Site {
         }
     }
 
-    // Does what a call does, by how the site stands, in place.
+    // Does what a call does, by how the site stands, in place. A call that wants the site served comes only where it is.
     pub(crate) fn serve(&mut self, call: Call)
-        requires { IsKept call }
+        requires kept { IsKept call }
+        requires served { not_served (standing_by (starting self.old) 36) call ≡ false }
         ensures { Serves self.old self.new call }
     {
         match (self.standing(), call) {
@@ -89,7 +90,7 @@ impl Site {
                 day,
                 None,
             ),
-            _ => {}
+            _ => unreachable!(),
         }
     }
 }
