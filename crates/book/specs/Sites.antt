@@ -31,20 +31,14 @@ dial_days x First = x.first
 dial_days x Second = x.second
 
 -- One situation is put, one index is put; the others stay.
-abbrev pub Starts : Site → Site → ℕ → Option Situation → Type 0
-Starts x y d o = (e : ℕ) → starting y e ≡ cond (d == e) o (starting x e)
-
-abbrev pub Restarts : Site → Site → ℕ → Option Situation → ℕ → Option Situation → Type 0
-Restarts x y d o b p = (e : ℕ) → starting y e ≡ cond (d == e) o (cond (b == e) p (starting x e))
+abbrev pub Starts : (ℕ → Option Situation) → (ℕ → Option Situation) → ℕ → Option Situation → Type 0
+Starts f g d o = (e : ℕ) → g e ≡ cond (d == e) o (f e)
 
 abbrev pub SameStarts : Site → Site → Type 0
 SameStarts x y = (e : ℕ) → starting y e ≡ starting x e
 
 abbrev pub StandsAt : Site → Site → ℕ → ℕ → Option Index → Type 0
 StandsAt x y k d o = (b e : ℕ) → standing_index y b e ≡ cond (k == b && d == e) o (standing_index x b e)
-
-abbrev pub SameIndexesOf : Site → Site → Type 0
-SameIndexesOf x y = (b e : ℕ) → standing_index y b e ≡ standing_index x b e
 
 pub record NoEntries (x : Site) : Type 0 where
   pub no_situation : (d : ℕ) → starting x d ≡ None
@@ -62,8 +56,8 @@ renewed t (Some x) = Some (record { end = x.end; terms = t })
 abbrev pub corrected : ℕ → Terms → (ℕ → Option Situation) → ℕ → Option Situation
 corrected d t f e = cond (d == e) (renewed t (f d)) (f e)
 
-abbrev pub Closes : Site → Site → ℕ → ℕ → Type 0
-Closes x y b d = (e : ℕ) → starting y e ≡ cond (b == e) (closed d (starting x b)) (starting x e)
+abbrev pub Closes : (ℕ → Option Situation) → (ℕ → Option Situation) → ℕ → ℕ → Type 0
+Closes f g b d = (e : ℕ) → g e ≡ cond (b == e) (closed d (f b)) (f e)
 
 -- What a call makes of the situations of a site that stands so.
 abbrev pub after : Standing → Call → (ℕ → Option Situation) → ℕ → Option Situation

@@ -21,6 +21,7 @@ impl<K: Copy> ByDay<K> {
         *self.days.get(usize::from(day))?
     }
 
+    // Past day 35 it puts nothing by definition, as the clause says; it gives up no call.
     pub(crate) fn put(&mut self, day: u8, x: Option<K>)
         ensures { (e : ℕ) → slice_index_or self.new.days e None ≡ (if nat_eq day e && nat_lt day 36 then x else slice_index_or self.old.days e None) }
     {

@@ -9,7 +9,8 @@ use book_rules::Call;
 use refusals::Refusal;
 
 impl Book {
-    // Why a call is refused, if it is: the upper refusal that applies to it.
+    // Why a call is refused, if it is: the upper refusal that applies to it. It answers an Option, not a Result: this is a
+    // question, and its answer is no failure.
     pub fn ruling(&self, call: Call) -> Option<Refusal>
         ensures { Rules (setup self.now) (contents self.now) call (ruled result) }
     {
@@ -22,10 +23,7 @@ impl Book {
         ensures same { setup self.new ≡ setup self.old }
         ensures acts { Acts (contents self.old) (contents self.new) call }
     {
-        let Some(site) = self.sites.get_mut(usize::from(call.site())) else {
-            return;
-        };
-        site.serve(call);
+        self.sites[usize::from(call.site())].serve(call);
         match call {
             Call::Open { .. } | Call::Modify { .. } => self.situations.take(),
             Call::Enter { .. } => self.indexes.take(),

@@ -1,4 +1,4 @@
-// The six calls by name.
+// The six calls by name. Their parameters are fixed by the rules; what is behind them takes them together, as a Call.
 ghost use Rattle.book_rules.specs.declared.Call.TheVariants.{Open, Modify, End, Correct, Enter, Strike};
 ghost use Rattle.book.specs.Books.{Made};
 

@@ -1,4 +1,4 @@
-// What speaks against an index of a dial.
+// When an index of a dial is out of order.
 ghost use Rattle.std.specs.Prelude.{◌≡◌};
 ghost use Rattle.book_rules.specs.Tests.{against, crossed};
 ghost use Rattle.book.specs.Sites.{on};
@@ -15,7 +15,7 @@ fn contradicts(day: u8, value: u32, e: u8, index: Option<Index>) -> bool
 
 impl ByDay<Index> {
     // Whether a value lies below an earlier or above a later index.
-    pub(crate) fn speak_against(&self, day: u8, value: u32) -> bool
+    pub(crate) fn is_out_of_order(&self, day: u8, value: u32) -> bool
         ensures { result ≡ crossed (on self.now) day value 36 }
     {
         (0..36u8).any(|e| contradicts(day, value, e, self.at(e)))

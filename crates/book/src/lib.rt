@@ -13,4 +13,5 @@ mod rulings;
 pub mod setting_up;
 mod site;
 mod sites;
+mod situations;
 pub mod store;

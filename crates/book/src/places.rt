@@ -29,17 +29,16 @@ impl Places {
         self.free() == 0
     }
 
-    // Takes a place, if one is free.
+    // Takes a place that is free.
     pub(crate) fn take(&mut self)
+        requires { self.old.taken < self.old.most }
         ensures most { self.new.most ≡ self.old.most }
-        ensures taken { self.old.taken < self.old.most → self.new.taken ≡ self.old.taken + 1 }
+        ensures taken { self.new.taken ≡ self.old.taken + 1 }
     {
-        if self.taken < self.most {
-            self.taken += 1;
-        }
+        self.taken += 1;
     }
 
-    // Frees a place, if one is taken.
+    // Frees a place: one less is taken, as the rules have it, and none stays none.
     pub(crate) fn give_back(&mut self)
         ensures most { self.new.most ≡ self.old.most }
         ensures taken { self.new.taken ≡ self.old.taken - 1 }

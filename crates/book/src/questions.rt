@@ -1,5 +1,5 @@
 // Questions to a book. They change nothing and are never refused.
-ghost use Rattle.std.specs.Prelude.{◌≡◌, ◌<◌, ◌≤◌, MatchOption, slice_index_or, vec_len};
+ghost use Rattle.std.specs.Prelude.{◌≡◌, ◌<◌, ◌≤◌, MatchOption, is_some, slice_index_or, true, vec_len};
 ghost use Rattle.book.specs.Sites.{starting, service_of, Serving, NoEntries};
 ghost use Rattle.book.specs.Books.{setup, contents, StandsSo, left_of, no_site};
 
@@ -83,16 +83,18 @@ impl Book {
         self.site(site)?.dial(Dial::try_from(dial).ok()?).at(day)
     }
 
-    // How many places for situations are free; always told, since no more are taken than there are.
+    // How many places for situations are free. There is always an answer, since no more are taken than there are.
     pub fn free_situation_places(&self) -> Option<usize>
-        ensures { result ≡ left_of (setup self.now).situation_places (contents self.now).situations }
+        ensures left { result ≡ left_of (setup self.now).situation_places (contents self.now).situations }
+        ensures told { is_some result ≡ true }
     {
         Some(self.situations.free())
     }
 
-    // How many places for indexes are free; always told, since no more are taken than there are.
+    // How many places for indexes are free. There is always an answer, since no more are taken than there are.
     pub fn free_index_places(&self) -> Option<usize>
-        ensures { result ≡ left_of (setup self.now).index_places (contents self.now).indexes }
+        ensures left { result ≡ left_of (setup self.now).index_places (contents self.now).indexes }
+        ensures told { is_some result ≡ true }
     {
         Some(self.indexes.free())
     }

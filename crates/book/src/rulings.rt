@@ -70,7 +70,7 @@ impl Book {
         if indexes.at(day).is_some() {
             return Err(Refusal::IndexAlreadyStands);
         }
-        if indexes.speak_against(day, value) {
+        if indexes.is_out_of_order(day, value) {
             return Err(Refusal::IndexOutOfOrder);
         }
         if self.indexes.are_full() {

@@ -1,12 +1,12 @@
 // What is read off a site and what is put into it. The book has ruled on the call; nothing here refuses.
-ghost use Rattle.std.specs.Prelude.{◌≡◌, ℕ, ◌<◌, Some, None};
-ghost use Rattle.book_rules.specs.Telling.{begun};
-ghost use Rattle.book_rules.specs.Tests.{standing_on, standing_by};
-ghost use Rattle.book.specs.Sites.{starting, NoEntries, Starts, StandsAt, SameStarts, SameIndexesOf, corrected, Closes, Serves, IsKept, IsKeptAt, dial_days};
+ghost use Rattle.std.specs.Prelude.{◌≡◌, ℕ, ◌<◌, false, Ok};
+ghost use Rattle.profiles.specs.Table.{dial_of};
+ghost use Rattle.book_rules.specs.Tests.{standing_on, standing_by, not_served};
+ghost use Rattle.book.specs.Sites.{starting, NoEntries, StandsAt, SameStarts, Serves, IsKept, dial_days};
 
 use crate::by_day::ByDay;
 use crate::site::Site;
-use book_rules::{Call, Index, Situation, Standing, Terms};
+use book_rules::{Call, Index, Situation, Standing};
 use profiles::Dial;
 
 // How a site stands once a situation that starts on day b is looked at.
@@ -49,64 +49,33 @@ impl Site {
         }
     }
 
-    // Puts an index of a dial on a day, or takes it off; of another dial than the two none is put.
-    fn put_index(&mut self, dial: u8, day: u8, index: Option<Index>)
-        ensures put { IsKeptAt dial day → StandsAt self.old self.new dial day index }
+    // Puts an index of a dial on a day, or takes it off.
+    fn put_index(&mut self, dial: Dial, day: u8, index: Option<Index>)
+        requires { day < 36 }
+        ensures put { (k : ℕ) → Ok dial ≡ dial_of k → StandsAt self.old self.new k day index }
         ensures same { SameStarts self.old self.new }
     {
-        match Dial::try_from(dial) {
-            Ok(Dial::First) => self.first.put(day, index),
-            Ok(Dial::Second) => self.second.put(day, index),
-            Err(_) => {}
+        match dial {
+            Dial::First => self.first.put(day, index),
+            Dial::Second => self.second.put(day, index),
         }
     }
 
-    // A situation starts.
-    fn begin(&mut self, day: u8, terms: Terms)
-        ensures put { day < 36 → Starts self.old self.new day (Some (begun terms)) }
-        ensures same { SameIndexesOf self.old self.new }
-    {
-        self.situations
-            .put(day, Some(Situation { end: None, terms }));
-    }
-
-    // The situation that starts on a day ends on another.
-    fn close(&mut self, start: u8, day: u8)
-        ensures put { Closes self.old self.new start day }
-        ensures same { SameIndexesOf self.old self.new }
-    {
-        let ended = self.situations.at(start).map(|situation| Situation {
-            end: Some(day),
-            ..situation
-        });
-        self.situations.put(start, ended);
-    }
-
-    // The situation that starts on a day gets new terms.
-    fn correct(&mut self, day: u8, terms: Terms)
-        ensures put { (e : ℕ) → starting self.new e ≡ corrected day terms (starting self.old) e }
-        ensures same { SameIndexesOf self.old self.new }
-    {
-        let corrected = self
-            .situations
-            .at(day)
-            .map(|situation| Situation { terms, ..situation });
-        self.situations.put(day, corrected);
-    }
-
-    // Does what a call does, by how the site stands, in place.
+    // Does what a call does, by how the site stands, in place. A call that wants the site served comes only where it is.
     pub(crate) fn serve(&mut self, call: Call)
-        ensures { IsKept call → Serves self.old self.new call }
+        requires kept { IsKept call }
+        requires served { not_served (standing_by (starting self.old) 36) call ≡ false }
+        ensures { Serves self.old self.new call }
     {
         match (self.standing(), call) {
-            (_, Call::Open { day, terms, .. }) => self.begin(day, terms),
+            (_, Call::Open { day, terms, .. }) => self.situations.begin(day, terms),
             (Standing::Running(start), Call::Modify { day, terms, .. }) => {
-                self.close(start, day);
-                self.begin(day, terms);
+                self.situations.close(start, day);
+                self.situations.begin(day, terms);
             }
             (Standing::Running(start) | Standing::Ended { start, .. }, Call::End { day, .. }) =>
-                self.close(start, day),
-            (_, Call::Correct { day, terms, .. }) => self.correct(day, terms),
+                self.situations.close(start, day),
+            (_, Call::Correct { day, terms, .. }) => self.situations.correct(day, terms),
             (
                 _,
                 Call::Enter {
@@ -115,9 +84,13 @@ impl Site {
                     value,
                     ..
                 },
-            ) => self.put_index(dial, day, Some(Index { value })),
-            (_, Call::Strike { dial, day, .. }) => self.put_index(dial, day, None),
-            _ => {}
+            ) => self.put_index(Dial::try_from(dial).unwrap(), day, Some(Index { value })),
+            (_, Call::Strike { dial, day, .. }) => self.put_index(
+                Dial::try_from(dial).unwrap(),
+                day,
+                None,
+            ),
+            _ => unreachable!(),
         }
     }
 }

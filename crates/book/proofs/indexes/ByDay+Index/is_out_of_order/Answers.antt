@@ -4,7 +4,7 @@ use Rattle.std.proofs.lemmas.Iterator.Search.{any_from_yields_List}
 use Rattle.book_rules.specs.Tests.{against, crossed}
 use Rattle.book.specs.Sites.{on}
 use Rattle.book.proofs.Counted.{any_day}
-use Rattle.book.proofs.indexes.ByDay+Index.speak_against.Goals as goal
+use Rattle.book.proofs.indexes.ByDay+Index.is_out_of_order.Goals as goal
 
 pub returns : goal.returns
 unfolding crossed
