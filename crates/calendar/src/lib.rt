@@ -28,8 +28,8 @@ impl fmt::Display for CivilDate {
 }
 
 // The place of a date in the profile year: the profile week, 1 to 52, and the day of the week as which it counts,
-// 1 Monday to 7 Sunday.
-#[derive(Clone, Copy, PartialEq, Eq, Debug)]
+// 1 Monday to 7 Sunday. The default, week 0 and day 0, is the place of no date.
+#[derive(Clone, Copy, PartialEq, Eq, Debug, Default)]
 pub struct Place {
     pub week: u8,
     pub day: u8,

@@ -5,16 +5,14 @@ ghost use Rattle.calendar.specs.Places.{place_at};
 ghost use Rattle.coefficients.specs.Weights.{day_place, product, coefficient_weight, calendar_weight, good_horizon, days_covered};
 
 use super::Coefficients;
+use arrayvec::ArrayVec;
 use calendar::{Place, place_of};
 use sources::{ProfileSource, nearest_weight};
-use std::array;
 
 // How many coefficients the source reads: 395 for each of eight sub-profiles.
 const COEFFICIENTS: usize = 3_160;
 // The most days that the source covers.
 const MOST_DAYS: usize = 35;
-// Where a profile year begins.
-const NEW_YEAR: Place = Place { week: 1, day: 1 };
 
 fn weight_of(cs: u16, cj: u16, ch: u16) -> u32
     ensures { result ≡ product cs cj ch }
@@ -29,52 +27,55 @@ fn is_good_horizon(first: u32, days: usize) -> bool
     (1..=MOST_DAYS).contains(&days) && first as usize + days <= 36_159
 }
 
-// The place of each day from the first date on; past the last date any place.
-fn places_from(first: u32, holidays: &[u32]) -> [Place; MOST_DAYS]
-    requires { first ≤ 36159 }
-    ensures { (k : ℕ) → k < 35 → first + k ≤ 36158 → day_place result k ≡ place_at holidays.now (first + k) }
+// The place of each day of a horizon.
+fn places_of(first: u32, days: usize, holidays: &[u32]) -> ArrayVec<Place, MOST_DAYS>
+    requires { (days ≤ 35) × (first + days ≤ 36159) }
+    ensures count { length result.items ≡ days }
+    ensures placed { (k : ℕ) → k < days → day_place result.items k ≡ place_at holidays.now (first + k) }
 {
-    array::from_fn(|k| place_of(first + k as u32, holidays).unwrap_or(NEW_YEAR))
+    let mut places = ArrayVec::new();
+    for date in first..first + days as u32 {
+        places.push(place_of(date, holidays).unwrap_or_default());
+    }
+    places
 }
 
 impl Coefficients {
     // The source of a list of 3,160 coefficients over `days` days from the first date on. With a shorter list, or a
     // horizon that is bad, it covers nothing; further places of a longer list are not read.
     pub fn over(list: &[u16], first: u32, days: usize, holidays: &[u32]) -> Coefficients
-        ensures covers { result.days ≡ days_covered list.now first days }
-        ensures weighs { (sub t : ℕ) → sub ≤ 7 → t < 48 * result.days → coefficient_weight result.list (day_place result.places (t / 48)) sub (t % 48) ≡ calendar_weight list.now holidays.now first sub t }
+        ensures covers { length result.places.items ≡ days_covered list.now first days }
+        ensures weighs { (sub t : ℕ) → sub ≤ 7 → t < 48 * length result.places.items → coefficient_weight result.list (day_place result.places.items (t / 48)) sub (t % 48) ≡ calendar_weight list.now holidays.now first sub t }
     {
         if let Some(own) = list.first_chunk::<COEFFICIENTS>()
             && is_good_horizon(first, days)
         {
             return Coefficients {
                 list: *own,
-                places: places_from(first, holidays),
-                days,
+                places: places_of(first, days, holidays),
             };
         }
         Coefficients {
             list: [0; COEFFICIENTS],
-            places: [NEW_YEAR; MOST_DAYS],
-            days: 0,
+            places: ArrayVec::new(),
         }
     }
 }
 
 impl ProfileSource for Coefficients {
-    ghost covers = { λ s. 48 * s.days };
+    ghost covers = { λ s. 48 * length s.places.items };
 
-    ghost weighs = { λ s sub t. coefficient_weight s.list (day_place s.places (t / 48)) sub (t % 48) };
+    ghost weighs = { λ s sub t. coefficient_weight s.list (day_place s.places.items (t / 48)) sub (t % 48) };
 
     fn covered(&self) -> usize {
-        48 * self.days
+        48 * self.places.len()
     }
 
     fn weight(&self, sub_profile: u8, half_hour: usize) -> Option<u32> {
-        if sub_profile > 7 || half_hour >= self.covered() {
+        if sub_profile > 7 {
             return None;
         }
-        let place = self.places[half_hour / 48];
+        let place = self.places.as_slice().get(half_hour / 48)?;
         let base = 395 * usize::from(sub_profile);
         let cs = self.list[base + (usize::from(place.week) - 1)];
         let cj = self.list[base + 52 + (usize::from(place.day) - 1)];

@@ -75,8 +75,9 @@ impl Sharing {
         ensures { Written self.energy self.all self.behind weights.now figures.old figures.new }
     {
         // No `zip`: of places written through one a proof knows the number alone.
-        for (t, figure) in figures.iter_mut().enumerate() {
-            let Some(weight) = weights.get(t) else {
+        let mut weights = weights.iter();
+        for figure in figures.iter_mut() {
+            let Some(weight) = weights.next() else {
                 return;
             };
             *figure = self.next_figure(*weight);

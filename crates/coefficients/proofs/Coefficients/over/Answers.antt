@@ -1,4 +1,4 @@
-use Rattle.std.proofs.Common.{◌≡◌, ℕ, ◌+◌, ◌-◌, ◌*◌, ◌/◌, ◌%◌, ◌<◌, ◌≤◌, false, List, take, sym, ap, ◌∙◌, subst, arith, rules}
+use Rattle.std.proofs.Common.{◌≡◌, ℕ, ◌+◌, ◌-◌, ◌*◌, ◌/◌, ◌%◌, ◌<◌, ◌≤◌, false, List, length, take, sym, ap, ◌∙◌, subst, arith}
 use Rattle.std.proofs.lemmas.List.{get_or-take}
 use Rattle.std.proofs.lemmas.Grind.{common_steps}
 use Rattle.std.proofs.Math.Bool.{and-false}
@@ -26,22 +26,15 @@ same_weight xs place sub h year s t =
     let half = get_or-take 3160 xs (395 * sub + 59 + 48 * (place.day - 1) + h) 0 (omega arith) in
     cc
 
-pub places_from-requires : goal.places_from-requires
-places_from-requires c = search rules
-
 pub invariant_of-result : goal.invariant_of-result
-invariant_of-result c =
-    let horizon = c.if-is_good_horizon.ensures.facts in
-    record {
-      short = horizon.0;
-      placed = λ k h. subst InYear (sym (c.places_from.ensures k (omega arith) (omega arith))) (date_in_year c.args.holidays.now (c.args.first + k));
-    }
+invariant_of-result c = record {
+  placed = λ k h. subst InYear (sym (c.places_of.ensures.placed k (omega arith))) (date_in_year c.args.holidays.now (c.args.first + k));
+}
 
 pub returns-clause-weighs : goal.returns-clause-weighs
 returns-clause-weighs c = λ sub t low under.
     let list = c.args.list.now in let hs = c.args.holidays.now in let x = c.args.first + t / 48 in
-    let horizon = c.if-is_good_horizon.ensures.facts in
-    let placed = c.places_from.ensures (t / 48) (omega arith) (omega arith) in
+    let placed = c.places_of.ensures.placed (t / 48) (omega arith) in
     let year = date_in_year hs x in
     ap (λ (p : Place). coefficient_weight c.in-Some.own.now p sub (t % 48)) placed
     ∙ (ap (λ (l : List ℕ). coefficient_weight l (place_at hs x) sub (t % 48)) c.in-Some.ensures.cases.same ∙ same_weight list (place_at hs x) sub (t % 48) year low (omega arith))
@@ -52,5 +45,5 @@ returns-2-clause-covers c =
       | in_default-via-in-None-1 w ↦ grind (arith, common_steps)
       | in_default-via-in-Some+else-is_good_horizon w ↦
           let bad : good_horizon c.args.first c.args.days ≡ false = sym w.if-is_good_horizon.ensures.value in
-          simp (bad, and-false)
+          ap length c.new.ensures ∙ simp (bad, and-false)
     ]
