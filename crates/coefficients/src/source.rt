@@ -35,7 +35,7 @@ fn places_of(first: u32, days: usize, holidays: &[u32]) -> ArrayVec<Place, MOST_
 {
     let mut places = ArrayVec::new();
     for date in first..first + days as u32 {
-        places.push(place_of(date, holidays).unwrap_or_default());
+        places.push(place_of(date, holidays).unwrap());
     }
     places
 }
