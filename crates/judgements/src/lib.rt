@@ -10,6 +10,7 @@ use sources::ProfileSource;
 use spans::{Anomaly, DialSpan, SiteDial};
 
 // What decides on the energy of a dial: a dial of a site in a book, a source of weights and a threshold set.
+#[derive(Drop)]
 pub struct MeteredDial<'a, S> {
     pub at: SiteDial<'a>,
     pub source: &'a S,
