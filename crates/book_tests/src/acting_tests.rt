@@ -25,7 +25,7 @@ fn new_book(heap: Global) -> Result<Book, Fail> {
         situation_places: 3,
         index_places: 2,
     };
-    Book::new(heap, set_up).map_err(|_| Fail::new("no book"))
+    Ok(Book::new(heap, set_up)?)
 }
 
 fn made(rt: &impl Abort, book: &mut Book, calls: &[Call]) {

@@ -66,33 +66,27 @@ fn prepared(rt: &impl Abort, heap: Global) -> Result<Book, Fail> {
         situation_places: 2,
         index_places: 2,
     };
-    let Ok(mut book) = Book::new(heap, set_up) else {
-        return Err(Fail::new("no book"));
-    };
+    let mut book = Book::new(heap, set_up)?;
     for call in BEFORE {
         assert!(rt; book.make(call).is_ok());
     }
     Ok(book)
 }
 
+// The tables below tell refusals by number, since they are read beside the rules' list, which goes by numbers.
 fn number(answer: Result<(), refusals::Refusal>) -> u8 {
     answer.err().map_or(0, |refusal| refusal.number())
 }
 
 fn are_same(one: &Book, other: &Book) -> bool {
-    for site in 0..4u16 {
-        for day in 0..37u8 {
-            if one.situation_starting(site, day) != other.situation_starting(site, day) {
-                return false;
-            }
-            for dial in 0..4u8 {
-                if one.index_standing(site, dial, day) != other.index_standing(site, dial, day) {
-                    return false;
-                }
-            }
-        }
-    }
-    one.free_situation_places() == other.free_situation_places()
+    let are_same_on = |site: u16, day: u8| {
+        one.situation_starting(site, day) == other.situation_starting(site, day)
+            && (0..4u8).all(|dial| {
+                one.index_standing(site, dial, day) == other.index_standing(site, dial, day)
+            })
+    };
+    (0..4u16).all(|site| (0..37u8).all(|day| are_same_on(site, day)))
+        && one.free_situation_places() == other.free_situation_places()
         && one.free_index_places() == other.free_index_places()
 }
 

@@ -64,9 +64,7 @@ fn places(rt: HostRuntime) -> Result<(), Fail> {
             situation_places: given,
             index_places: given,
         };
-        let Ok(book) = Book::new(rt.alloc(), set_up) else {
-            return Err(Fail::new("no book"));
-        };
+        let book = Book::new(rt.alloc(), set_up)?;
         assert_eq!(rt; book.free_situation_places(), situations);
         assert_eq!(rt; book.free_index_places(), indexes);
     }

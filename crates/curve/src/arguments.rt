@@ -8,6 +8,7 @@ use text_fields::{day, decimal};
 #[derive(Drop)]
 pub(crate) struct Weighting {
     pub(crate) list: Vec<u16>,
+    // a number from the user; one past 7 is refused when it is read
     pub(crate) sub_profile: u8,
     pub(crate) holidays: Vec<u32>,
 }

@@ -47,6 +47,7 @@ fn curve_of(
 fn read_span(rt: &HostRuntime) -> anyhow::Result<Span> {
     let mut first: Option<Reading> = None;
     let mut span: Option<Span> = None;
+    // As in replay_list, with which this program shares no library; what they do with a line differs.
     for (number, line) in (1u64..).zip(rt.lines(rt.alloc())) {
         let line = line?;
         if is_passed_over(line.as_bytes()) {
@@ -75,7 +76,7 @@ fn at_line<T: Drop>(number: u64, read: Result<T, Problem>) -> anyhow::Result<T> 
 
 fn print_curve(rt: &HostRuntime, first_date: u32, curve: &[u32]) -> anyhow::Result<()> {
     for (t, figure) in curve.iter().enumerate() {
-        let date = first_date as u64 + t as u64 / 48;
+        let date = u64::from(first_date) + t as u64 / 48;
         let hour = t % 48 / 2;
         let minute = t % 2 * 30;
         let civil = civil_date(u32::try_from(date)?).context("a day past the calendar")?;

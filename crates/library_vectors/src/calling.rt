@@ -1,5 +1,5 @@
 // Calls of a book, as a line has them, and their answers.
-use crate::words::{after, byte, number, site_number};
+use crate::words::{after, narrow, number};
 use book::store::Book;
 use book_rules::{Call, SetUp, Terms};
 use std::alloc::Global;
@@ -8,9 +8,9 @@ use std::alloc::Global;
 pub(crate) fn book_of(heap: Global, line: &str) -> Option<Book> {
     let set_up = SetUp {
         first: number(line, "first", 0)?,
-        days: byte(number(line, "days", 0)?),
-        parties: byte(number(line, "parties", 0)?),
-        sites: site_number(number(line, "sites", 0)?),
+        days: narrow(number(line, "days", 0)?),
+        parties: narrow(number(line, "parties", 0)?),
+        sites: narrow(number(line, "sites", 0)?),
         situation_places: number(line, "places", 0)? as usize,
         index_places: number(line, "places", 1)? as usize,
     };
@@ -28,15 +28,15 @@ fn valued(line: &str, key: &str) -> Option<u32> {
 
 fn terms_of(line: &str) -> Option<Terms> {
     Some(Terms {
-        party: byte(valued(line, "party")?),
-        class: byte(valued(line, "cls")?),
-        power: byte(valued(line, "power")?),
+        party: narrow(valued(line, "party")?),
+        class: narrow(valued(line, "cls")?),
+        power: narrow(valued(line, "power")?),
     })
 }
 
 fn call_of(line: &str) -> Option<Call> {
-    let site = site_number(valued(line, "site")?);
-    let day = byte(valued(line, "day")?);
+    let site = narrow(valued(line, "site")?);
+    let day = narrow(valued(line, "day")?);
     match after(line, "call", 0)? {
         "O" => Some(Call::Open {
             site,
@@ -56,20 +56,20 @@ fn call_of(line: &str) -> Option<Call> {
         }),
         "I" => Some(Call::Enter {
             site,
-            dial: byte(valued(line, "dial")?),
+            dial: narrow(valued(line, "dial")?),
             day,
             value: valued(line, "value")?,
         }),
         "S" => Some(Call::Strike {
             site,
-            dial: byte(valued(line, "dial")?),
+            dial: narrow(valued(line, "dial")?),
             day,
         }),
         _ => None,
     }
 }
 
-// Makes the call of a line: the number that it is answered with, 0 where it is made.
+// Makes the call of a line: the number that it is answered with, 0 where it is made. A number, since the file tells one.
 fn answer(book: &mut Book, line: &str) -> Option<u32> {
     let answer = book.make(call_of(line)?);
     Some(

@@ -10,7 +10,7 @@ use calling::{book_of, is_answered_so};
 use std::alloc::{AllocError, Global};
 use std::{array, fs, io};
 use weighing::{Summary, weigh};
-use words::{after, byte, first, number, words_after};
+use words::{after, first, narrow, number, words_after};
 
 mod calling;
 mod weighing;
@@ -102,7 +102,7 @@ fn read_line(case: &mut Case, heap: Global, line: &str) -> Result<(), AllocError
             compare(case, same);
         }
         "weights" => {
-            let sub_profile = byte(number(line, "weights", 0).unwrap_or(8));
+            let sub_profile = narrow(number(line, "weights", 0).unwrap_or(8));
             let same = weigh(case, heap, sub_profile)? == summary_of(line);
             compare(case, same);
         }
@@ -126,11 +126,16 @@ fn read_source(case: &mut Case, line: &str) -> Result<(), AllocError> {
         };
         return Ok(());
     }
-    case.bottom = Bottom::ByCoefficients {
-        modulus: number(line, "m", 0).unwrap_or(1),
-        zeros: number(line, "z", 0).unwrap_or(0),
-    };
-    case.holidays.extend(words_after(line, "holidays").map_while(|word| word.parse::<u32>().ok()))
+    // Once flat, a case stays so, whatever source line comes later.
+    if !matches!(case.bottom, Bottom::Flat { .. }) {
+        case.bottom = Bottom::ByCoefficients {
+            modulus: number(line, "m", 0).unwrap_or(1),
+            zeros: number(line, "z", 0).unwrap_or(0),
+        };
+    }
+    let holidays = words_after(line, "holidays").take(64);
+    case.holidays
+        .extend(holidays.map_while(|word| word.parse::<u32>().ok()))
 }
 
 fn layer_of(line: &str) -> (i16, usize) {
@@ -149,16 +154,13 @@ fn summary_of(line: &str) -> Summary {
     }
 }
 
-// Week and day of each day, as 13.7, are those of the calendar.
+// Week and day of each day, as 13.7, are those of the calendar; of a longer case the first 35 days are looked at.
 fn calendar_agrees(case: &Case, line: &str) -> bool {
     let mut words = words_after(line, "calendar");
-    for date in case.first..case.first.saturating_add(case.days) {
-        let place = place_of(date, case.holidays.as_slice());
-        if place.is_none() || words.next().and_then(place_told) != place {
-            return false;
-        }
-    }
-    true
+    (0..case.days.min(35)).all(|k| {
+        let place = place_of(case.first.saturating_add(k), case.holidays.as_slice());
+        place.is_some() && words.next().and_then(place_told) == place
+    })
 }
 
 fn place_told(text: &str) -> Option<Place> {

@@ -1,4 +1,5 @@
 // Words of a line.
+use num_traits::Bounded;
 use std::str::SplitWhitespace;
 
 // The word that stands `n` places behind the word `key`.
@@ -18,12 +19,8 @@ pub(crate) fn number(line: &str, key: &str, n: usize) -> Option<u32> {
 }
 
 // A number that is too wide for its place stands at the widest one, which every rule refuses.
-pub(crate) fn byte(number: u32) -> u8 {
-    u8::try_from(number).unwrap_or(u8::MAX)
-}
-
-pub(crate) fn site_number(number: u32) -> u16 {
-    u16::try_from(number).unwrap_or(u16::MAX)
+pub(crate) fn narrow<T: Bounded + TryFrom<u32, Error: Drop>>(number: u32) -> T {
+    T::try_from(number).unwrap_or(T::max_value())
 }
 
 pub(crate) fn first(line: &str) -> &str {

@@ -4,7 +4,7 @@
 
 use anyhow::{Context, bail};
 use book::store::Book;
-use book_rules::{Call, SetUp, SetUpError, Terms};
+use book_rules::{Call, SetUp, SetUpError};
 use refusals::Refusal;
 use replay::replayed;
 use std::io;
@@ -32,6 +32,7 @@ fn run(rt: &HostRuntime) -> anyhow::Result<()> {
 fn read(rt: &HostRuntime) -> anyhow::Result<(SetUp, Vec<Call>)> {
     let mut set_up: Option<SetUp> = None;
     let mut calls: Vec<Call> = Vec::new(rt.alloc());
+    // As in curve, with which this program shares no library; what they do with a line differs.
     for (number, line) in (1u64..).zip(rt.lines(rt.alloc())) {
         let line = line?;
         let text = line.as_str();
@@ -81,10 +82,9 @@ fn print_situation(rt: &HostRuntime, book: &Book, site: u16, day: u8) -> io::Res
         Some(end) => print!(rt; "site {site} from day {day} to day {end}: ")?,
         None => print!(rt; "site {site} from day {day} on: ")?,
     }
-    let Terms {
-        party,
-        class,
-        power,
-    } = situation.terms;
-    println!(rt; "party {party}, class {class}, {power} kVA")
+    let terms = situation.terms;
+    println!(rt;
+        "party {}, class {}, {} kVA",
+        terms.party, terms.class, terms.power
+    )
 }

@@ -67,15 +67,13 @@ fn pairs(rt: HostRuntime) {
 #[test]
 fn curves(rt: HostRuntime) -> Result<(), Fail> {
     let first = Reading { date: 10, index: 0 };
-    let Ok(span) = Span::between(
+    let span = Span::between(
         first,
         Reading {
             date: 11,
             index: 50,
         },
-    ) else {
-        return Err(Fail::new("no span"));
-    };
+    )?;
     assert!(rt;
         span.curve(rt.alloc(), &Flat::over(47), 0)?.is_none(),
         "too few half-hours covered"
@@ -88,9 +86,9 @@ fn curves(rt: HostRuntime) -> Result<(), Fail> {
         span.curve(rt.alloc(), &Flat::over(48), 8)?.is_none(),
         "no such sub-profile"
     );
-    let Some(curve) = span.curve(rt.alloc(), &Flat::over(48), 7)? else {
-        return Err(Fail::new("no curve"));
-    };
+    let curve = span
+        .curve(rt.alloc(), &Flat::over(48), 7)?
+        .ok_or("no curve")?;
     assert_eq!(rt; curve.len(), 48);
     assert_eq!(rt; total(curve.as_slice()), 50);
     // 50·24 div 48 is 25, 50·25 div 48 is 26: half-hour 24 gets 1, half-hour 47 gets 2

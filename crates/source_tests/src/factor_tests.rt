@@ -137,9 +137,7 @@ const CASES: [Case; 10] = [
 #[test]
 fn extremes(rt: HostRuntime) -> Result<(), Fail> {
     for case in CASES.iter() {
-        let Ok(set) = Thresholds::of(case.k, &[0, 0, 0, 0, 0, case.theta, 0, 0]) else {
-            return Err(Fail::new("no set"));
-        };
+        let set = Thresholds::of(case.k, &[0, 0, 0, 0, 0, case.theta, 0, 0])?;
         assert_eq!(rt;
             set.is_extreme(5, case.kva, case.energy, case.weights),
             Some(case.extreme),

@@ -1,6 +1,6 @@
 // A kind that joins to nonsense past the bound, makes nonsense of pieces outside their domain, and stores a mark that is
 // no part of what it holds.
-ghost use Rattle.std.specs.Prelude.{◌≡◌, ℕ, ◌+◌, ◌^◌, ◌≤◌, not, ℤ, pos, nat_le, unsigned_abs};
+ghost use Rattle.std.specs.Prelude.{◌≡◌, ℕ, ◌+◌, ◌^◌, ◌≤◌, ℤ, pos, unsigned_abs};
 ghost use Rattle.trait_tests.specs.Odds.{odd_joined, odd_taken};
 ghost use Rattle.std.proofs.Common.{rules};
 
@@ -12,10 +12,24 @@ struct Odd {
     mark: i64,
 }
 
-fn is_past_the_bound(a: i64, b: i64) -> bool
-    ensures { result ≡ not (nat_le (unsigned_abs a + unsigned_abs b) (10 ^ 15)) }
-{
-    a.unsigned_abs() as u128 + b.unsigned_abs() as u128 > 1_000_000_000_000_000
+impl Odd {
+    // These Wh within the bound, and nonsense past it.
+    fn within(self, other: Odd, wh: i64) -> Odd
+        ensures { unsigned_abs self.wh + unsigned_abs other.wh ≤ 10 ^ 15 → result.wh ≡ wh }
+    {
+        if u128::from(self.wh.unsigned_abs()) + u128::from(other.wh.unsigned_abs())
+            > 1_000_000_000_000_000
+        {
+            return Odd {
+                wh: self.mark,
+                mark: other.wh,
+            };
+        }
+        Odd {
+            wh,
+            mark: other.mark,
+        }
+    }
 }
 
 impl Amount for Odd {
@@ -48,35 +62,17 @@ impl Amount for Odd {
             return Odd { wh: -1, mark: 0 };
         }
         Odd {
-            wh: wh as i64,
-            mark: dial as i64,
+            wh: i64::from(wh),
+            mark: i64::from(dial),
         }
     }
 
     fn join(self, other: Odd) -> Odd {
-        if is_past_the_bound(self.wh, other.wh) {
-            return Odd {
-                wh: self.mark,
-                mark: other.wh,
-            };
-        }
-        Odd {
-            wh: self.wh.saturating_add(other.wh),
-            mark: other.mark,
-        }
+        self.within(other, self.wh.saturating_add(other.wh))
     }
 
     fn take_off(self, other: Odd) -> Odd {
-        if is_past_the_bound(self.wh, other.wh) {
-            return Odd {
-                wh: self.mark,
-                mark: other.wh,
-            };
-        }
-        Odd {
-            wh: self.wh.saturating_sub(other.wh),
-            mark: other.mark,
-        }
+        self.within(other, self.wh.saturating_sub(other.wh))
     }
 
     fn energy_told(&self) -> i64 {

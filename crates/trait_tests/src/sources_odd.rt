@@ -20,7 +20,7 @@ impl ProfileSource for Slope {
         if sub_profile > 7 || half_hour >= 49 {
             return None;
         }
-        Some(20_000 * half_hour as u32 + sub_profile as u32)
+        Some(20_000 * half_hour as u32 + u32::from(sub_profile))
     }
 }
 

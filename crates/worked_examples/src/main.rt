@@ -59,9 +59,8 @@ fn bridges_into_april(rt: &HostRuntime) -> io::Result<bool> {
 
 // Prints a row with what the calendar answers, and tells whether that is the known place.
 fn holds(rt: &HostRuntime, row: &Row<'_>, holidays: &[u32]) -> io::Result<bool> {
-    let name = row.name;
     let (Some(civil), Some(place)) = (civil_date(row.date), place_of(row.date, holidays)) else {
-        println!(rt; "{name}: NO DATE")?;
+        println!(rt; "{}: NO DATE", row.name)?;
         return Ok(false);
     };
     let same = place == row.known;
@@ -70,8 +69,10 @@ fn holds(rt: &HostRuntime, row: &Row<'_>, holidays: &[u32]) -> io::Result<bool> 
     } else {
         "WHICH IS NOT THE KNOWN PLACE"
     };
-    let Place { week, day } = place;
-    println!(rt; "{civil} {name}: week {week} day {day}, {verdict}")?;
+    println!(rt;
+        "{civil} {}: week {} day {}, {verdict}",
+        row.name, place.week, place.day
+    )?;
     Ok(same)
 }
 
