@@ -41,6 +41,7 @@ impl Amount for Plain {
         Plain { wh: i64::from(wh) }
     }
 
+    // As `take_off` but for the operation, which is all that there is to say.
     fn join(self, other: Plain) -> Plain {
         Plain {
             wh: added(self.wh, other.wh),

@@ -74,6 +74,7 @@ impl Amount for Split {
         }
     }
 
+    // As `take_off` but for the operation: one function over it would take a closure, and a line for each field all the same.
     fn join(self, other: Split) -> Split {
         Split {
             first: added(self.first, other.first),

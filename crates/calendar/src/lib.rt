@@ -103,6 +103,7 @@ impl Date {
     fn of(days: u32) -> Option<Date>
         ensures { MatchOption result (36158 < days) (λ d. (d.days ≡ days) × (days ≤ 36158)) }
     {
+        // No `then`: in its closure, past the test, that the date is bounded (`invariant_of-result`) stays open.
         if days > LAST_DATE {
             return None;
         }

@@ -5,7 +5,8 @@ ghost use Rattle.std.specs.Prelude.{ℕ, ◌<◌, ◌≤◌, slice_index};
 
 pub mod sets;
 
-// A threshold set: k, and one theta for each sub-profile, in ten-thousandths. No other set exists.
+// A threshold set: k, and one theta for each sub-profile, in ten-thousandths. No other set exists. The thetas are always
+// eight, so no length stands beside them.
 #[derive(Clone, Copy)]
 pub struct Thresholds {
     k: u32,

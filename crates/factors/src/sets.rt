@@ -1,4 +1,4 @@
-// Making threshold sets, and the extreme test.
+// Making threshold sets, and the extreme test. `energy` and `weights` are two numbers, since the rules name them apart, E and S.
 ghost use Rattle.std.specs.Prelude.{◌≡◌, ℕ, ◌+◌, ◌*◌, ◌^◌, ◌<◌, ◌≤◌, true, ◌&&◌, length, if◌then◌else◌, Some, None, MatchResult, nat_le, slice_index, slice_index_or};
 ghost use Rattle.factors.specs.Sets.{refusal};
 ghost use Rattle.factors.specs.Extremes.{usage_factor, extreme, TestTellsExtremes};

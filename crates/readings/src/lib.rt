@@ -52,7 +52,7 @@ fn has_day_and_space(line: &[u8]) -> bool
 }
 
 impl Reading {
-    // The reading that a line tells, as 2007-01-01 12000.
+    // The reading that a line tells, as 2007-01-01 12000. A `TryFrom` of the bytes would say no more than this name does.
     pub fn from_line(line: &[u8]) -> Result<Reading, Problem>
         ensures { result ≡ reading_of line.now }
     {

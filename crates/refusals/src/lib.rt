@@ -49,8 +49,7 @@ impl fmt::Display for Refusal {
     ghost output = { λ r. Some (text_of r) };
 
     fn fmt<W: fmt::Write>(&self, f: &mut fmt::Formatter<W>) -> fmt::Result {
-        let number = self.number();
-        write!(f, "refused with {number}")
+        write!(f, "refused with {}", self.number())
     }
 }
 

@@ -60,6 +60,7 @@ impl ProfileSource for Flat {
     }
 
     fn weight(&self, sub_profile: u8, half_hour: usize) -> Option<u32> {
+        // Each source asks this itself: as a method of the trait it would be one more thing for each to prove.
         if sub_profile > 7 || half_hour >= self.covered() {
             return None;
         }

@@ -23,6 +23,8 @@ fn is_temperate(x: i16) -> bool
     (-500..=500).contains(&x)
 }
 
+// Two functions, over two types with a test each: with a chain of either in `is_bounded` what its `&&` answers
+// (`returns-then-..`, `returns-else-..`) is not found alone.
 fn are_temperate(list: &[i16]) -> bool
     ensures { result ≡ list_all temperate list.now }
 {

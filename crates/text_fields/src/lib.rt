@@ -14,6 +14,7 @@ pub fn decimal(text: &[u8]) -> Option<u32>
     if !matches!(text.len(), 1..=9) {
         return None;
     }
+    // A `for`: of `try_fold` the goal `callable` stays open, since that the sum fits hangs on how many digits were read.
     let mut value = 0;
     for byte in text {
         if !byte.is_ascii_digit() {
