@@ -25,7 +25,7 @@ pub struct Judgement {
     pub all: u64,
 }
 
-// The weight of a half-hour, 0 where the source tells none.
+// The weight of a half-hour, 0 where the source tells none. The sub-profile is a number, as a source is asked for it.
 fn weight_at<S: ProfileSource>(source: &S, sub_profile: u8, t: usize) -> u32
     ensures value { sub_profile ≤ 7 → t < S.covers source.now → result ≡ S.weighs source.now sub_profile t }
     ensures bound { result ≤ 1000000 }

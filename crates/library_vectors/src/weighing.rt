@@ -99,23 +99,16 @@ fn coefficients_of(
 }
 
 fn summed_up<S: ProfileSource>(source: &S, sub_profile: u8) -> Summary {
-    let mut first = [0; 4];
     let mut sum: u64 = 0;
     let mut checksum: u64 = 0;
-    for (t, weight) in (0..1680usize)
-        .map_while(|t| source.weight(sub_profile, t))
-        .enumerate()
-    {
-        if let Some(place) = first.get_mut(t) {
-            *place = weight;
-        }
+    let weights = (0..1680usize).map_while(|t| source.weight(sub_profile, t));
+    for (place, weight) in (1u64..).zip(weights) {
         let weight = u64::from(weight);
         sum = sum.saturating_add(weight);
-        checksum = checksum.saturating_add((t as u64).saturating_add(1).saturating_mul(weight))
-            % 1_000_000_007;
+        checksum = checksum.saturating_add(place.saturating_mul(weight)) % 1_000_000_007;
     }
     Summary {
-        first,
+        first: array::from_fn(|t| source.weight(sub_profile, t).unwrap_or(0)),
         sum,
         checksum,
     }

@@ -42,7 +42,7 @@ fn scaled_by(weight: u32, factor: i64) -> u32
 }
 
 impl Temperatures {
-    // A weight of a half-hour, adjusted.
+    // A weight of a half-hour, adjusted. The sub-profile is a number, as the source below was asked for it.
     fn adjust(&self, weight: u32, sub_profile: u8, half_hour: usize) -> u32
         requires weight { weight ≤ 1000000 }
         requires sub_profile { sub_profile ≤ 7 }
