@@ -1,133 +1,10 @@
-// Each refusal alone, and before those below it; the book is compared with a twin that never saw the refused call.
-use book::store::Book;
-use book_rules::{Call, SetUp, Terms};
-use std::alloc::Global;
-use std::process::Abort;
+// Each refusal alone, and before those below it, in a book whose places are all taken.
+use crate::prepared_book::{
+    GOOD, NO_CLASS, NO_PARTY, NO_POWER, all_refused, change, correction, ending, entry, opening,
+    striking,
+};
+use book_rules::Call;
 use std::test::Fail;
-
-const GOOD: Terms = Terms {
-    party: 0,
-    class: 1,
-    power: 6,
-};
-
-const NO_PARTY: Terms = Terms {
-    party: 2,
-    class: 9,
-    power: 0,
-};
-
-const NO_CLASS: Terms = Terms {
-    party: 1,
-    class: 9,
-    power: 6,
-};
-
-const NO_POWER: Terms = Terms {
-    party: 1,
-    class: 3,
-    power: 37,
-};
-
-// Three days, two parties, three sites: site 0 runs since day 1, site 1 was served from 0 to 2, site 2 never; dial 1 of
-// site 0 shows 100 on day 1 and 200 on day 3. All places are taken.
-const BEFORE: [Call; 5] = [
-    Call::Open {
-        site: 0,
-        day: 1,
-        terms: GOOD,
-    },
-    Call::Open {
-        site: 1,
-        day: 0,
-        terms: GOOD,
-    },
-    Call::End { site: 1, day: 2 },
-    Call::Enter {
-        site: 0,
-        dial: 1,
-        day: 1,
-        value: 100,
-    },
-    Call::Enter {
-        site: 0,
-        dial: 1,
-        day: 3,
-        value: 200,
-    },
-];
-
-fn prepared(rt: &impl Abort, heap: Global) -> Result<Book, Fail> {
-    let set_up = SetUp {
-        first: 0,
-        days: 3,
-        parties: 2,
-        sites: 3,
-        situation_places: 2,
-        index_places: 2,
-    };
-    let mut book = Book::new(heap, set_up)?;
-    for call in BEFORE {
-        assert!(rt; book.make(call).is_ok());
-    }
-    Ok(book)
-}
-
-// The tables below tell refusals by number, since they are read beside the rules' list, which goes by numbers.
-fn number(answer: Result<(), refusals::Refusal>) -> u8 {
-    answer.err().map_or(0, |refusal| refusal.number())
-}
-
-fn are_same(one: &Book, other: &Book) -> bool {
-    let are_same_on = |site: u16, day: u8| {
-        one.situation_starting(site, day) == other.situation_starting(site, day)
-            && (0..4u8).all(|dial| {
-                one.index_standing(site, dial, day) == other.index_standing(site, dial, day)
-            })
-    };
-    (0..4u16).all(|site| (0..37u8).all(|day| are_same_on(site, day)))
-        && one.free_situation_places() == other.free_situation_places()
-        && one.free_index_places() == other.free_index_places()
-}
-
-fn all_refused(rt: &impl Abort, heap: Global, cases: &[(Call, u8)]) -> Result<(), Fail> {
-    let twin = prepared(rt, heap)?;
-    let mut book = prepared(rt, heap)?;
-    for (call, expected) in cases {
-        assert_eq!(rt; number(book.make(*call)), *expected);
-        assert!(rt; are_same(&book, &twin), "changed by a refused call");
-    }
-    Ok(())
-}
-
-fn opening(site: u16, day: u8, terms: Terms) -> Call {
-    Call::Open { site, day, terms }
-}
-
-fn change(site: u16, day: u8, terms: Terms) -> Call {
-    Call::Modify { site, day, terms }
-}
-
-fn ending(site: u16, day: u8) -> Call {
-    Call::End { site, day }
-}
-
-fn correction(site: u16, day: u8, terms: Terms) -> Call {
-    Call::Correct { site, day, terms }
-}
-
-fn entry(site: u16, dial: u8, day: u8, value: u32) -> Call {
-    Call::Enter {
-        site,
-        dial,
-        day,
-        value,
-    }
-}
-
-fn striking(site: u16, dial: u8, day: u8) -> Call {
-    Call::Strike { site, dial, day }
-}
 
 #[test]
 fn openings(rt: HostRuntime) -> Result<(), Fail> {
@@ -146,7 +23,7 @@ fn openings(rt: HostRuntime) -> Result<(), Fail> {
         (opening(1, 2, GOOD), 11),
         (opening(2, 0, GOOD), 11),
     ];
-    all_refused(&rt, rt.alloc(), &cases)
+    all_refused(&rt, rt.alloc(), 2, &cases)
 }
 
 #[test]
@@ -162,7 +39,7 @@ fn modifications(rt: HostRuntime) -> Result<(), Fail> {
         (change(0, 1, GOOD), 9),
         (change(0, 2, GOOD), 11),
     ];
-    all_refused(&rt, rt.alloc(), &cases)
+    all_refused(&rt, rt.alloc(), 2, &cases)
 }
 
 #[test]
@@ -177,7 +54,7 @@ fn endings(rt: HostRuntime) -> Result<(), Fail> {
         (ending(1, 2), 9),
         (ending(1, 3), 9),
     ];
-    all_refused(&rt, rt.alloc(), &cases)
+    all_refused(&rt, rt.alloc(), 2, &cases)
 }
 
 #[test]
@@ -191,7 +68,7 @@ fn corrections(rt: HostRuntime) -> Result<(), Fail> {
         (correction(1, 2, GOOD), 10),
         (correction(2, 0, GOOD), 10),
     ];
-    all_refused(&rt, rt.alloc(), &cases)
+    all_refused(&rt, rt.alloc(), 2, &cases)
 }
 
 #[test]
@@ -211,7 +88,7 @@ fn entries(rt: HostRuntime) -> Result<(), Fail> {
         (entry(0, 1, 2, 200), 16),
         (entry(2, 2, 0, 0), 16),
     ];
-    all_refused(&rt, rt.alloc(), &cases)
+    all_refused(&rt, rt.alloc(), 2, &cases)
 }
 
 #[test]
@@ -222,5 +99,5 @@ fn strikes(rt: HostRuntime) -> Result<(), Fail> {
         (striking(0, 3, 1), 12),
         (striking(0, 2, 1), 17),
     ];
-    all_refused(&rt, rt.alloc(), &cases)
+    all_refused(&rt, rt.alloc(), 2, &cases)
 }
