@@ -29,7 +29,7 @@ impl Places {
         self.free() == 0
     }
 
-    // Takes a place that is free.
+    // Takes a place that is free. It counts by itself, since places are taken by calls and in no loop.
     pub(crate) fn take(&mut self)
         requires { self.old.taken < self.old.most }
         ensures most { self.new.most ≡ self.old.most }

@@ -76,7 +76,7 @@ impl Book {
         self.site(site)?.situations.at(day)
     }
 
-    // The index of a site's dial that stands on a day, if there is one.
+    // The index of a site's dial that stands on a day, if there is one. Site, dial and day are any numbers, as in the calls.
     pub fn index_standing(&self, site: u16, dial: u8, day: u8) -> Option<Index>
         ensures { result ≡ (contents self.now).index site dial day }
     {

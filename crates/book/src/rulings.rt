@@ -99,10 +99,12 @@ impl Book {
                 value,
                 ..
             } => { self.allow_index(site.dial(Dial::try_from(dial)?), day, value) }
-            Call::Strike { dial, day, .. } => match site.dial(Dial::try_from(dial)?).at(day) {
-                Some(_) => Ok(()),
-                None => Err(Refusal::NoIndex),
-            },
+            Call::Strike { dial, day, .. } => {
+                site.dial(Dial::try_from(dial)?)
+                    .at(day)
+                    .ok_or(Refusal::NoIndex)?;
+                Ok(())
+            }
             _ => Ok(()),
         }
     }

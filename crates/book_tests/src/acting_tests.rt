@@ -1,3 +1,4 @@
+use crate::prepared_book::entry;
 use book::store::Book;
 use book_rules::{Call, Service, SetUp, Situation, Standing, Terms};
 use std::alloc::Global;
@@ -121,24 +122,15 @@ fn modified_and_corrected(rt: HostRuntime) -> Result<(), Fail> {
     Ok(())
 }
 
-fn entry(dial: u8, day: u8, value: u32) -> Call {
-    Call::Enter {
-        site: 0,
-        dial,
-        day,
-        value,
-    }
-}
-
 #[test]
 fn struck_and_entered_again_in_a_full_book(rt: HostRuntime) -> Result<(), Fail> {
     let mut book = new_book(rt.alloc())?;
-    made(&rt, &mut book, &[entry(1, 0, 7), entry(1, 3, 7)]);
+    made(&rt, &mut book, &[entry(0, 1, 0, 7), entry(0, 1, 3, 7)]);
     assert_eq!(rt; book.free_index_places(), Some(0));
     assert!(rt; book.strike(0, 1, 3).is_ok());
     assert!(rt; book.index_standing(0, 1, 3).is_none());
     assert!(rt; book.index_standing(0, 1, 0).is_some());
-    made(&rt, &mut book, &[entry(2, 3, 999_999_999)]);
+    made(&rt, &mut book, &[entry(0, 2, 3, 999_999_999)]);
     assert_eq!(rt; book.free_index_places(), Some(0));
     Ok(())
 }

@@ -1,5 +1,6 @@
 // Two refusals that hold of one call: the upper one answers. Beside each call stands one in which what the upper refusal is for
-// is mended, and the lower one answers. Of the pairs that are not here no call has both.
+// is mended, and the lower one answers. Of the pairs that are not here no call has both. Refusals are told by number, as the
+// rules' list tells them.
 use crate::prepared_book::{
     GOOD, NO_CLASS, STRANGE_PARTY, STRANGE_PARTY_AND_CLASS, all_refused, change, correction,
     ending, entry, opening, striking,
@@ -66,7 +67,7 @@ fn openings(rt: HostRuntime) -> Result<(), Fail> {
 
 #[test]
 fn modifications(rt: HostRuntime) -> Result<(), Fail> {
-    let roomy: [Pair; 11] = [
+    let roomy: [Pair; 12] = [
         (
             change(3, 2, STRANGE_PARTY),
             3,
@@ -75,6 +76,7 @@ fn modifications(rt: HostRuntime) -> Result<(), Fail> {
         ),
         (change(3, 3, GOOD), 3, change(0, 3, GOOD), 5),
         (change(3, 2, NO_CLASS), 3, change(0, 2, NO_CLASS), 6),
+        (change(3, 2, GOOD), 3, change(2, 2, GOOD), 8),
         (change(0, 3, STRANGE_PARTY), 4, change(0, 3, GOOD), 5),
         (
             change(0, 2, STRANGE_PARTY_AND_CLASS),
@@ -103,8 +105,9 @@ fn modifications(rt: HostRuntime) -> Result<(), Fail> {
 
 #[test]
 fn endings(rt: HostRuntime) -> Result<(), Fail> {
-    let pairs: [Pair; 3] = [
+    let pairs: [Pair; 4] = [
         (ending(3, 4), 3, ending(0, 4), 5),
+        (ending(3, 3), 3, ending(2, 3), 8),
         (ending(2, 4), 5, ending(2, 3), 8),
         (ending(1, 4), 5, ending(1, 3), 9),
     ];

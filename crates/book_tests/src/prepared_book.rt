@@ -86,7 +86,8 @@ fn prepared(rt: &impl Abort, heap: Global, places: usize) -> Result<Book, Fail> 
     Ok(book)
 }
 
-// The tables below tell refusals by number, since they are read beside the rules' list, which goes by numbers.
+// The tables of refusing_tests and pair_tests tell refusals by number, since they are read beside the rules' list, which goes
+// by numbers; sites, days and dials are numbers, as the calls take them.
 fn number(answer: Result<(), refusals::Refusal>) -> u8 {
     answer.err().map_or(0, |refusal| refusal.number())
 }

@@ -33,6 +33,7 @@ fn places_of(first: u32, days: usize, holidays: &[u32]) -> ArrayVec<Place, MOST_
     ensures count { length result.items ≡ days }
     ensures placed { (k : ℕ) → k < days → day_place result.items k ≡ place_at holidays.now (first + k) }
 {
+    // pushed one by one, since `collect` asks for an allocator and `over` has none
     let mut places = ArrayVec::new();
     for date in first..first + days as u32 {
         places.push(place_of(date, holidays).unwrap());

@@ -23,10 +23,9 @@ pub(crate) fn read(rt: &HostRuntime) -> anyhow::Result<Option<Weighting>> {
         .next()
         .context("usage: curve [COEFFICIENTS SUB-PROFILE HOLIDAY...]")?;
     let sub_profile = sub_profile_of(sub_profile.as_str())?;
-    let mut holidays = Vec::new(rt.alloc());
-    for word in words {
-        holidays.push(holiday_of(word.as_str())?)?;
-    }
+    let holidays = words
+        .map(|word| holiday_of(word.as_str()))
+        .try_collect(rt.alloc())?;
     let list = coefficients_of(rt, path.as_str())?;
     Ok(Some(Weighting {
         list,

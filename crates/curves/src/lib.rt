@@ -90,6 +90,7 @@ pub fn factor<S: ProfileSource>(
     };
     let mut weights = [0u32; 1680];
     let judgement = metered.judge(span, &mut weights);
+    // a match, since the two answers have each their own reason
     match judgement.account {
         Ok(_) => Ok(Some(usage_factor_of(span.energy, judgement.all))),
         Err(_) => Ok(None),

@@ -21,7 +21,8 @@ fn share_out(energy: u32, all: u64, weights: &[u32], figures: &mut [u32])
     }
 }
 
-// Writes the figures of a span of a dial.
+// Writes the figures of a span of a dial, as one is found there. The weights are an array of the caller's, of the length of
+// the longest book.
 fn write_span<S: ProfileSource>(
     metered: &MeteredDial<'_, S>,
     span: DialSpan,

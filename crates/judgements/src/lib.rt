@@ -33,7 +33,8 @@ fn weight_at<S: ProfileSource>(source: &S, sub_profile: u8, t: usize) -> u32
     source.weight(sub_profile, t).unwrap_or(0)
 }
 
-// Writes a source's weights of the half-hours from `first` on into their places and answers their sum.
+// Writes a source's weights of the half-hours from `first` on into their places and answers their sum. Not one with the
+// total of crate readings, which writes nothing and knows that all is covered.
 fn weigh<S: ProfileSource>(source: &S, sub_profile: u8, first: usize, weights: &mut [u32]) -> u64
     requires { first + length weights.old ≤ 1680 }
     ensures weighed { sub_profile ≤ 7 → first + length weights.old ≤ S.covers source.now → WeighedInto (S.weighs source.now sub_profile) first (length weights.old) weights.new result }

@@ -81,11 +81,6 @@ fn answer(book: &mut Book, line: &str) -> Option<u32> {
 
 // Whether the call of a line is answered as the line says.
 pub(crate) fn is_answered_so(book: &mut Option<Book>, line: &str) -> bool {
-    let Some(book) = book else {
-        return false;
-    };
-    let Some(answer) = answer(book, line) else {
-        return false;
-    };
-    number(line, "answers", 0) == Some(answer)
+    let answer = book.as_mut().and_then(|book| answer(book, line));
+    answer.is_some() && answer == number(line, "answers", 0)
 }

@@ -85,6 +85,7 @@ fn new_case(heap: Global, number: u32) -> Case {
 
 // A line of a case: what it sets is kept, what it tells is compared.
 fn read_line(case: &mut Case, heap: Global, line: &str) -> Result<(), AllocError> {
+    // a match and no table of functions, since each step takes other things
     match first(line) {
         "setup" => {
             case.first = number(line, "first", 0).unwrap_or(0);

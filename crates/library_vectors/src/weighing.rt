@@ -14,7 +14,7 @@ pub(crate) struct Summary {
     pub(crate) checksum: u64,
 }
 
-// The summary of a sub-profile's weights in the source of a case.
+// The summary of a sub-profile's weights in the source of a case. The sub-profile is a number, as the file tells it.
 pub(crate) fn weigh(case: &Case, heap: Global, sub_profile: u8) -> Result<Summary, AllocError> {
     match case.bottom {
         Bottom::Flat { half_hours } => {
@@ -99,6 +99,7 @@ fn coefficients_of(
 }
 
 fn summed_up<S: ProfileSource>(source: &S, sub_profile: u8) -> Summary {
+    // a `for`, since it makes two sums at once
     let mut sum: u64 = 0;
     let mut checksum: u64 = 0;
     let weights = (0..1680usize).map_while(|t| source.weight(sub_profile, t));

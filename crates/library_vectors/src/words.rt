@@ -18,7 +18,8 @@ pub(crate) fn number(line: &str, key: &str, n: usize) -> Option<u32> {
     after(line, key, n)?.parse::<u32>().ok()
 }
 
-// A number that is too wide for its place stands at the widest one, which every rule refuses.
+// A number that is too wide for its place stands at the widest one, which every rule refuses. As in replay_list: a line
+// in each program is no more than a library for it.
 pub(crate) fn narrow<T: Bounded + TryFrom<u32, Error: Drop>>(number: u32) -> T {
     T::try_from(number).unwrap_or(T::max_value())
 }

@@ -62,7 +62,8 @@ impl Profile {
         }
     }
 
-    // The sub-profile of a dial (a register of the meter, 1 or 2); none where the profile lacks the dial.
+    // The sub-profile of a dial (a register of the meter, 1 or 2); none where the profile lacks the dial. The dial is any
+    // number, as in the calls.
     pub fn sub_profile(self, dial: u8) -> Option<u8>
         ensures { result ≡ sub_profile_of self dial }
     {

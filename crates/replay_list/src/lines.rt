@@ -8,6 +8,7 @@ fn number(line: &str, place: usize) -> Option<u32> {
     line.split_whitespace().nth(place)?.parse::<u32>().ok()
 }
 
+// As in library_vectors: a line in each program is no more than a library for it.
 fn narrow<T: Bounded + TryFrom<u32, Error: Drop>>(line: &str, place: usize) -> Option<T> {
     Some(T::try_from(number(line, place)?).unwrap_or(T::max_value()))
 }

@@ -82,9 +82,8 @@ fn print_situation(rt: &HostRuntime, book: &Book, site: u16, day: u8) -> io::Res
         Some(end) => print!(rt; "site {site} from day {day} to day {end}: ")?,
         None => print!(rt; "site {site} from day {day} on: ")?,
     }
-    let terms = situation.terms;
     println!(rt;
         "party {}, class {}, {} kVA",
-        terms.party, terms.class, terms.power
+        situation.terms.party, situation.terms.class, situation.terms.power
     )
 }

@@ -25,7 +25,8 @@ pub trait ProfileSource {
         ensures within { IfSome result (λ w. (w ≤ 1000000) × (half_hour < 1680)) };
 }
 
-// A weight that is given in billionths, in ten-thousandths: to the nearest (the half goes up), cut at the largest weight.
+// A weight that is given in billionths, in ten-thousandths: to the nearest (the half goes up), cut at the largest weight,
+// as the rules cut it.
 pub fn nearest_weight(billionths: u64) -> u32
     ensures { result ≡ nearest billionths }
 {
@@ -60,10 +61,6 @@ impl ProfileSource for Flat {
     }
 
     fn weight(&self, sub_profile: u8, half_hour: usize) -> Option<u32> {
-        // Each source asks this itself: as a method of the trait it would be one more thing for each to prove.
-        if sub_profile > 7 || half_hour >= self.covered() {
-            return None;
-        }
-        Some(10_000)
+        (sub_profile <= 7 && half_hour < self.covered()).then_some(10_000)
     }
 }

@@ -35,6 +35,7 @@ fn is_gap(from: u8, day: u8, latest: Option<(u8, Situation)>) -> bool
     day >= from && !is_running(latest, day)
 }
 
+// The sub-profile of a dial of any number.
 #[tactic(auto, unfolding(span_rules::specs::Days::sub_profile_under))]
 fn sub_profile_of(terms: Terms, dial: u8) -> Option<u8>
     ensures { result ≡ sub_profile_under terms dial }
@@ -69,9 +70,7 @@ impl SiteDial<'_> {
         ensures { from < to → GroundsTold ((contents self.now.book.now).situation self.now.site) self.now.dial from to result }
     {
         let situation = self.situation_throughout(from, to)?;
-        let Some(sub_profile) = sub_profile_of(situation.terms, self.dial) else {
-            return Err(Anomaly::NoDial);
-        };
+        let sub_profile = sub_profile_of(situation.terms, self.dial).ok_or(Anomaly::NoDial)?;
         Ok(Grounds {
             party: situation.terms.party,
             power: situation.terms.power,
@@ -82,7 +81,7 @@ impl SiteDial<'_> {
 
 impl Grounds {
     // Whether the energy of a span with these grounds may go to the party, by that energy and the sum of its weights; or
-    // the anomaly that keeps it.
+    // the anomaly that keeps it. Energy and weights are the two numbers that the rules name E and S.
     pub fn check(self, thresholds: &Thresholds, energy: u32, weights: u64) -> Result<(), Anomaly>
         ensures { result ≡ unless_found (anomaly_by thresholds.now.k (λ p. slice_index thresholds.now.thetas p) self energy weights) }
     {

@@ -20,7 +20,7 @@ pub struct SiteDial<'a> {
 }
 
 // A span of a dial: the day of its first index, the day of its last, which is no day of the span, and the energy between
-// the two in Wh.
+// the two in Wh. Of any numbers: a judgement looks at what lies before day 35 of it.
 #[derive(Clone, Copy, PartialEq, Eq, Debug)]
 pub struct DialSpan {
     pub from: u8,

@@ -17,10 +17,8 @@ impl ProfileSource for Slope {
     }
 
     fn weight(&self, sub_profile: u8, half_hour: usize) -> Option<u32> {
-        if sub_profile > 7 || half_hour >= 49 {
-            return None;
-        }
-        Some(20_000 * half_hour as u32 + u32::from(sub_profile))
+        (sub_profile <= 7 && half_hour < 49).then(|| 20_000 * half_hour as u32
+            + u32::from(sub_profile))
     }
 }
 

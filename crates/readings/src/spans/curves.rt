@@ -76,7 +76,8 @@ impl Span {
     }
 }
 
-// The weights of a sub-profile over the half-hours that a source covers.
+// The weights of a sub-profile over the half-hours that a source covers. The sub-profile is a number, as a source is asked
+// for it.
 #[derive(Drop)]
 struct Weights<'a, S> {
     source: &'a S,
