@@ -1,5 +1,5 @@
 -- Sites in a list, and what is kept of a site. Assumes nothing.
-use Rattle.std.proofs.Common.{◌≡◌, ℕ, zero, suc, ◌<◌, ◌≤◌, List, length, get_or, replicate, None, Ok, Option, sym, refl, ap, ◌∙◌, subst, ⊎_elim, arith}
+use Rattle.std.proofs.Common.{◌≡◌, ℕ, zero, suc, ◌<◌, ◌≤◌, List, [], ◌∷◌, ◌++◌, length, get_or, replicate, None, Ok, Option, sym, refl, ap, ◌∙◌, subst, ⊎_elim, arith}
 use Rattle.std.proofs.lemmas.List.{get_or_past, get_or_read}
 use Rattle.std.proofs.lemmas.Bool.{cases_lt}
 use Rattle.std.proofs.lemmas.Bool.Decides.{nat_tests}
@@ -48,8 +48,15 @@ read xs s x lt v = get_or_read xs s x lt v no_site
 pub unknown : (xs : List Site) (s : ℕ) → length xs ≤ s → NoEntries (get_or xs s no_site)
 unknown xs s h = subst NoEntries (sym (get_or_past xs s no_site h)) nothing_there
 
-pub all_empty : (xs : List Site) → ((s : ℕ) → s < length xs → NoEntries (get_or xs s no_site)) → AllEmpty xs
-all_empty xs h s = ⊎_elim {C = NoEntries (get_or xs s no_site)} (h s) (unknown xs s) (cases_lt s (length xs))
+-- a list of nothing is of sites that keep nothing, and so is one site more that keeps nothing
+pub all_empty : AllEmpty []
+all_empty s = nothing_there
+
+pub one_more_empty : (xs : List Site) (x : Site) → AllEmpty xs → NoEntries x → AllEmpty (xs ++ x ∷ [])
+one_more_empty [] x h e zero = e
+one_more_empty [] x h e (suc s) = h s
+one_more_empty (y ∷ xs) x h e zero = h zero
+one_more_empty (y ∷ xs) x h e (suc s) = one_more_empty xs x (λ z. h (suc z)) e s
 
 -- the indexes of a dial, by its number
 pub of_dial : (x : Site) (k : ℕ) (dial : Dial) → Ok dial ≡ dial_of k → standing_index x k ≡ on (dial_days x dial)

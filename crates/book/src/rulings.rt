@@ -1,11 +1,12 @@
 // Why a call is refused, if it is: the tests in the order of their numbers, on the unchanged book.
 ghost use Rattle.std.specs.Prelude.{◌≡◌, not, [], ◌∷◌, is_ok, is_some, nat_le, nat_lt};
 ghost use Rattle.profiles.specs.Table.{profile_of};
-ghost use Rattle.book_rules.specs.Tests.{first, tests, of_terms, beyond, crossed, opened_running, not_served, unfit_day};
-ghost use Rattle.book.specs.Sites.{on};
+ghost use Rattle.book_rules.specs.Tests.{first, tests, of_terms, beyond, crossed, standing_by, opened_running, not_served, unfit_day};
+ghost use Rattle.book.specs.Sites.{on, starting};
 ghost use Rattle.book.specs.Books.{setup, contents, answered};
 
 use crate::by_day::ByDay;
+use crate::site::Site;
 use crate::store::Book;
 use book_rules::{Call, Index, Standing};
 use profiles::{Dial, Profile};
@@ -31,6 +32,20 @@ fn contradiction(standing: Standing, call: Call) -> Result<(), Refusal>
         (Standing::Ended { start, end }, Call::End { day, .. }) if day <= start || day >= end =>
             Err(Refusal::DayNotAllowed),
         _ => Ok(()),
+    }
+}
+
+impl Site {
+    // What is asked of how the site stands, by the calls for which that matters: for the others it is not looked up.
+    fn allow(&self, call: Call) -> Result<(), Refusal>
+        ensures { answered result ≡ first ((7, opened_running (standing_by (starting self.now) 36) call) ∷ (8, not_served (standing_by (starting self.now) 36) call) ∷ (9, unfit_day (standing_by (starting self.now) 36) call) ∷ []) }
+    {
+        match call {
+            Call::Open { .. } | Call::Modify { .. } | Call::End { .. } => {
+                contradiction(self.standing(), call)
+            }
+            Call::Correct { .. } | Call::Enter { .. } | Call::Strike { .. } => Ok(()),
+        }
     }
 }
 
@@ -85,7 +100,7 @@ impl Book {
     {
         let site = self.site(call.site()).ok_or(Refusal::UnknownSite)?;
         self.allow_terms(call)?;
-        contradiction(site.standing(), call)?;
+        site.allow(call)?;
         match call {
             Call::Correct { day, .. } if site.situations.at(day).is_none() => Err(
                 Refusal::NoSituation,

@@ -23,7 +23,12 @@ fn is_within_bounds(set_up: SetUp) -> bool
 fn empty_sites(heap: Global, count: u16) -> Result<Vec<Site>, AllocError>
     ensures { IfOk result (λ v. (vec_len v ≡ count) × AllEmpty v.items) }
 {
-    (0..count).map(|_| Site::new()).collect(heap)
+    // Room for so many and no more, which `collect` does not give; of what `extend` adds, what each site is stays open.
+    let mut sites = Vec::with_capacity(heap, usize::from(count))?;
+    for _ in 0..count {
+        sites.push(Site::new())?;
+    }
+    Ok(sites)
 }
 
 impl Book {

@@ -2,7 +2,7 @@
 ghost use Rattle.std.specs.Prelude.{◌≡◌, ℕ, ◌<◌, false, Ok};
 ghost use Rattle.profiles.specs.Table.{dial_of};
 ghost use Rattle.book_rules.specs.Tests.{standing_on, standing_by, not_served};
-ghost use Rattle.book.specs.Sites.{starting, NoEntries, StandsAt, SameStarts, Serves, IsKept, dial_days};
+ghost use Rattle.book.specs.Sites.{starting, standing_index, NoEntries, StandsAt, SameStarts, Serves, IsKept, after, dial_days};
 
 use crate::by_day::ByDay;
 use crate::site::Site;
@@ -61,11 +61,13 @@ impl Site {
         }
     }
 
-    // Does what a call does, by how the site stands, in place. A call that wants the site served comes only where it is.
-    pub(crate) fn serve(&mut self, call: Call)
+    // Does what a call does to the situations, by how the site stands, in place. A call that wants the site served comes
+    // only where it is.
+    fn situate(&mut self, call: Call)
         requires kept { IsKept call }
         requires served { not_served (standing_by (starting self.old) 36) call ≡ false }
-        ensures { Serves self.old self.new call }
+        ensures situations { (e : ℕ) → starting self.new e ≡ after (standing_by (starting self.old) 36) call (starting self.old) e }
+        ensures indexes { (b e : ℕ) → standing_index self.new b e ≡ standing_index self.old b e }
     {
         match (self.standing(), call) {
             (_, Call::Open { day, terms, .. }) => self.situations.begin(day, terms),
@@ -76,21 +78,32 @@ impl Site {
             (Standing::Running(start) | Standing::Ended { start, .. }, Call::End { day, .. }) =>
                 self.situations.close(start, day),
             (_, Call::Correct { day, terms, .. }) => self.situations.correct(day, terms),
-            (
-                _,
-                Call::Enter {
-                    dial,
-                    day,
-                    value,
-                    ..
-                },
-            ) => self.put_index(Dial::try_from(dial).unwrap(), day, Some(Index { value })),
-            (_, Call::Strike { dial, day, .. }) => self.put_index(
+            (_, Call::Enter { .. } | Call::Strike { .. }) => {}
+            _ => unreachable!(),
+        }
+    }
+
+    // Does what a call does. How the site stands is looked up only for a call of the situations.
+    pub(crate) fn serve(&mut self, call: Call)
+        requires kept { IsKept call }
+        requires served { not_served (standing_by (starting self.old) 36) call ≡ false }
+        ensures { Serves self.old self.new call }
+    {
+        match call {
+            Call::Enter {
+                dial,
+                day,
+                value,
+                ..
+            } => self.put_index(Dial::try_from(dial).unwrap(), day, Some(Index { value })),
+            Call::Strike { dial, day, .. } => self.put_index(
                 Dial::try_from(dial).unwrap(),
                 day,
                 None,
             ),
-            _ => unreachable!(),
+            Call::Open { .. } | Call::Modify { .. } | Call::End { .. } | Call::Correct { .. } => {
+                self.situate(call)
+            }
         }
     }
 }

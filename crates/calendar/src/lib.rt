@@ -77,9 +77,9 @@ fn months_begun(year: u16, day_of_year: u32) -> u8
     ensures value { result ≡ begun (days_before_month year) day_of_year 12 }
     ensures bound { result ≤ 12 }
 {
-    (1..=12)
-        .filter(|month| days_before(year, *month) <= day_of_year)
-        .count() as u8
+    (1..13)
+        .map(|month| u8::from(days_before(year, month) <= day_of_year))
+        .sum()
 }
 
 impl CivilDate {

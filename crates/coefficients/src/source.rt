@@ -1,5 +1,5 @@
 // Making a coefficient source, and its weights.
-ghost use Rattle.std.specs.Prelude.{◌≡◌, ℕ, ◌+◌, ◌*◌, ◌/◌, ◌%◌, ◌<◌, ◌≤◌, true, length, slice_index, slice_index_or};
+ghost use Rattle.std.specs.Prelude.{◌≡◌, ℕ, ◌+◌, ◌*◌, ◌/◌, ◌%◌, ◌<◌, ◌≤◌, true, length, take, MatchOption, slice_index, slice_index_or};
 ghost use Rattle.std.specs.Bool.{OnTrue};
 ghost use Rattle.calendar.specs.Places.{place_at};
 ghost use Rattle.coefficients.specs.Weights.{day_place, product, coefficient_weight, calendar_weight, good_horizon, days_covered};
@@ -27,6 +27,13 @@ fn is_good_horizon(first: u32, days: usize) -> bool
     (1..=MOST_DAYS).contains(&days) && first as usize + days <= 36_159
 }
 
+// The coefficients that the source reads of a list, if it has so many.
+fn read_of(list: &[u16]) -> Option<&[u16; COEFFICIENTS]>
+    ensures { MatchOption result (length list.now < 3160) (λ own. (3160 ≤ length list.now) × (own.now ≡ take 3160 list.now)) }
+{
+    list.first_chunk()
+}
+
 // The place of each day of a horizon.
 fn places_of(first: u32, days: usize, holidays: &[u32]) -> ArrayVec<Place, MOST_DAYS>
     requires { (days ≤ 35) × (first + days ≤ 36159) }
@@ -48,7 +55,7 @@ impl Coefficients {
         ensures covers { length result.places.items ≡ days_covered list.now first days }
         ensures weighs { (sub t : ℕ) → sub ≤ 7 → t < 48 * length result.places.items → coefficient_weight result.list (day_place result.places.items (t / 48)) sub (t % 48) ≡ calendar_weight list.now holidays.now first sub t }
     {
-        if let Some(own) = list.first_chunk::<COEFFICIENTS>()
+        if let Some(own) = read_of(list)
             && is_good_horizon(first, days)
         {
             return Coefficients {

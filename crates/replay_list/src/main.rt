@@ -4,7 +4,7 @@
 
 use anyhow::{Context, bail};
 use book::store::Book;
-use book_rules::{Call, SetUp, SetUpError};
+use book_rules::{Call, SetUp, SetUpError, Terms};
 use refusals::Refusal;
 use replay::replayed;
 use std::io;
@@ -78,12 +78,17 @@ fn print_situation(rt: &HostRuntime, book: &Book, site: u16, day: u8) -> io::Res
     let Some(situation) = book.situation_starting(site, day) else {
         return Ok(());
     };
+    let Terms {
+        party,
+        class,
+        power,
+    } = situation.terms;
     match situation.end {
-        Some(end) => print!(rt; "site {site} from day {day} to day {end}: ")?,
-        None => print!(rt; "site {site} from day {day} on: ")?,
+        Some(end) => println!(rt;
+            "site {site} from day {day} to day {end}: party {party}, class {class}, {power} kVA"
+        ),
+        None => println!(rt;
+            "site {site} from day {day} on: party {party}, class {class}, {power} kVA"
+        ),
     }
-    println!(rt;
-        "party {}, class {}, {} kVA",
-        situation.terms.party, situation.terms.class, situation.terms.power
-    )
 }

@@ -45,6 +45,7 @@ impl SiteDial<'_> {
     }
 
     // The span that begins on a day: from the index of that day to the next one, if both stand.
+    #[inline(always)]
     pub fn span_beginning(&self, day: u8) -> Option<DialSpan>
         ensures { Begins (indexes_of self.now) (setup self.now.book.now).days day result }
     {

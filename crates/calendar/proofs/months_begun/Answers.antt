@@ -1,14 +1,23 @@
-use Rattle.std.proofs.Common.{◌∙◌, ℕ, leb, rules, tests}
-use Rattle.std.specs.List.{range_with_len}
-use Rattle.std.proofs.lemmas.Iterator.Consumers.{YieldsList-at, YieldsList-from_filter, count_from_yields_List}
-use Rattle.std.proofs.lemmas.List.Sums.{length-filter}
+use Rattle.std.proofs.Common.{◌∙◌, ℕ, cond, leb, refl, arith, rules, tests}
+use Rattle.std.proofs.lemmas.Iterator.{YieldsList-from_range, YieldsList-from_map}
+use Rattle.std.proofs.lemmas.Iterator.Consumers.{sum_from_yields_List}
+use Rattle.std.proofs.lemmas.Iterator.Adapters.{fits_from_length, at_most_from_yields_List}
+use Rattle.std.proofs.lemmas.List.FromFn.{length-range_with_len}
 use Rattle.calendar.specs.Dates.{days_before_month}
-use Rattle.calendar.proofs.Counting.{begun_counts, twelve_months}
+use Rattle.calendar.proofs.Counting.{begun_added, begun_bound}
 use Rattle.calendar.proofs.months_begun.Goals as goal
+
+pub sum-requires-clause-fits : goal.sum-requires-clause-fits
+sum-requires-clause-fits c =
+    fits_from_length _ _ 12 _ (at_most_from_yields_List (YieldsList-from_range 1 13 12 (cc) refl) (omega (arith, length-range_with_len 1 12)))
+    c.map.ensures.closure (omega arith) (λ x r q k. search (rules, tests))
 
 pub returns-clause-value : goal.returns-clause-value
 returns-clause-value c =
-    let has_begun = λ (m : ℕ). leb (days_before_month c.args.year m) c.args.day_of_year in
-    count_from_yields_List c.filter.result c.count.result c.count.ensures.ran
-    (YieldsList-from_filter _ has_begun (YieldsList-at c.filter.ensures.source (twelve_months c.new.ensures.start c.new.ensures.end c.new.ensures.exhausted)) c.filter.ensures.closure (λ x r q k. search (rules, tests)))
-    ∙ (length-filter has_begun (range_with_len 1 12) ∙ begun_counts (days_before_month c.args.year) c.args.day_of_year)
+    let once = λ (m : ℕ). cond (leb (days_before_month c.args.year m) c.args.day_of_year) 1 0 in
+    sum_from_yields_List c.map.result c.sum.result c.sum.ensures.ran
+    (YieldsList-from_map _ once (YieldsList-from_range 1 13 12 (cc) refl) c.map.ensures.closure (λ x r q k. search (rules, tests)))
+    ∙ begun_added (days_before_month c.args.year) c.args.day_of_year
+
+pub returns-clause-bound : goal.returns-clause-bound
+returns-clause-bound c = omega (arith, returns-clause-value c, begun_bound (days_before_month c.args.year) c.args.day_of_year 12)

@@ -2,6 +2,7 @@
 ghost use Rattle.std.specs.Prelude.{◌≡◌, ◌+◌, ◌-◌, ◌*◌, ◌<◌, ◌≤◌, IfOk, Some, None, vec_items, vec_len, MatchResult};
 ghost use Rattle.std.specs.Option.{option_map};
 ghost use Rattle.sharing.specs.Shares.{before};
+ghost use Rattle.sources.specs.Meaning.{Short, Light};
 ghost use Rattle.readings.specs.Curves.{problem_between, half_hours_between, energy_between, Curve, DrawnBy};
 
 use super::Span;
@@ -62,12 +63,14 @@ impl Span {
     ) -> Result<Option<Vec<u32>>, AllocError>
         ensures { IfOk result (λ o. DrawnBy (S.covers source.now) (S.weighs source.now) sub_profile self.now.first self.now.last (option_map vec_items o)) }
     {
-        if source.covered() != self.half_hours() as usize || sub_profile > 7 {
+        let half_hours = self.half_hours() as usize;
+        if source.covered() != half_hours || sub_profile > 7 {
             return Ok(None);
         }
         let weights = Weights {
             source,
             sub_profile,
+            half_hours,
         };
         let Some(sharing) = Sharing::over(self.energy(), weights.total()) else {
             return Ok(None);
@@ -76,12 +79,13 @@ impl Span {
     }
 }
 
-// The weights of a sub-profile over the half-hours that a source covers. The sub-profile is a number, as a source is asked
-// for it.
+// The weights of a sub-profile over the first half-hours of a source. The sub-profile is a number, as a source is asked for
+// it.
 #[derive(Drop)]
 struct Weights<'a, S> {
     source: &'a S,
     sub_profile: u8,
+    half_hours: usize,
     ghost known: { sub_profile ≤ 7 },
 }
 
@@ -97,23 +101,25 @@ impl<'a, S: ProfileSource> Weights<'a, S> {
 
     // All of them, added.
     fn total(&self) -> u64
-        ensures value { result ≡ before (S.weighs self.now.source.now self.now.sub_profile) (S.covers self.now.source.now) }
+        requires covered { self.now.half_hours ≤ S.covers self.now.source.now }
+        requires short { Short (S.covers self.now.source.now) }
+        requires light { Light (S.covers self.now.source.now) (S.weighs self.now.source.now) }
+        ensures value { result ≡ before (S.weighs self.now.source.now self.now.sub_profile) self.now.half_hours }
         ensures bound { result ≤ 1680000000 }
     {
-        (0..self.source.covered())
-            .map(|t| u64::from(self.at(t)))
-            .sum()
+        (0..self.half_hours).map(|t| u64::from(self.at(t))).sum()
     }
 
     // What each half-hour gets of the energy of a sharing that begins.
     fn figures(&self, heap: Global, mut sharing: Sharing) -> Result<Vec<u32>, AllocError>
-        requires all { sharing.all ≡ before (S.weighs self.now.source.now self.now.sub_profile) (S.covers self.now.source.now) }
+        requires covered { self.now.half_hours ≤ S.covers self.now.source.now }
+        requires all { sharing.all ≡ before (S.weighs self.now.source.now self.now.sub_profile) self.now.half_hours }
         requires behind { sharing.behind ≡ 0 }
-        ensures { IfOk result (λ v. Curve sharing.energy (S.weighs self.now.source.now self.now.sub_profile) (S.covers self.now.source.now) v.items) }
+        ensures { IfOk result (λ v. Curve sharing.energy (S.weighs self.now.source.now self.now.sub_profile) self.now.half_hours v.items) }
     {
         // No chain: a closure in `map` that changes the sharing leaves the proof without what `collect` gathers.
         let mut curve = Vec::new(heap);
-        for t in 0..self.source.covered() {
+        for t in 0..self.half_hours {
             curve.push(sharing.next_figure(self.at(t)))?;
         }
         Ok(curve)

@@ -37,7 +37,7 @@ returns-clause-weighs c = λ sub t low under.
     let placed = c.places_of.ensures.placed (t / 48) (omega arith) in
     let year = date_in_year hs x in
     ap (λ (p : Place). coefficient_weight c.in-Some.own.now p sub (t % 48)) placed
-    ∙ (ap (λ (l : List ℕ). coefficient_weight l (place_at hs x) sub (t % 48)) c.in-Some.ensures.cases.same ∙ same_weight list (place_at hs x) sub (t % 48) year low (omega arith))
+    ∙ (ap (λ (l : List ℕ). coefficient_weight l (place_at hs x) sub (t % 48)) c.in-Some.ensures.1 ∙ same_weight list (place_at hs x) sub (t % 48) year low (omega arith))
 
 pub returns-2-clause-covers : goal.returns-2-clause-covers
 returns-2-clause-covers c =

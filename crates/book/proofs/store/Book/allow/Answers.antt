@@ -10,8 +10,8 @@ use Rattle.book_rules.specs.declared.Call.{Call}
 use Rattle.book_rules.specs.declared.Call.TheVariants.{Enter}
 use Rattle.book_rules.specs.Contents.{Setup, Contents}
 use Rattle.book_rules.specs.Refusing.{site_of}
-use Rattle.book_rules.specs.Tests.{first, tests, of_terms, beyond, crossed, standing, opened_running, not_served, unfit_day}
-use Rattle.book.specs.Sites.{on, standing_index}
+use Rattle.book_rules.specs.Tests.{first, tests, of_terms, beyond, crossed, standing, standing_by, opened_running, not_served, unfit_day}
+use Rattle.book.specs.Sites.{on, starting, standing_index}
 use Rattle.book.specs.Books.{no_site, setup, contents}
 use Rattle.book.proofs.Storage.{of_dial}
 use Rattle.book.proofs.store.Book.allow.Goals as goal
@@ -42,13 +42,13 @@ returns-in_err-allow_terms c =
     let known : site_of c.args.call < vec_len c.args.self.now.sites = grind (arith, common_steps) in
     rw (p.1, p.2) (refused_terms (setup c.args.self.now) (contents c.args.self.now) c.args.call _ known c.in_err-allow_terms.ensures)
 
-pub returns-in_err-contradiction : goal.returns-in_err-contradiction
-returns-in_err-contradiction c =
+pub returns-in_err-allow : goal.returns-in_err-allow
+returns-in_err-allow c =
     let b = c.args.self.now in
-    let p = err_from_is_err_and c.from_residual-in_err-contradiction.result c.from_residual-in_err-contradiction.ensures.1 in
+    let p = err_from_is_err_and c.from_residual-in_err-allow.result c.from_residual-in_err-allow.ensures.1 in
     let known : site_of c.args.call < vec_len b.sites = grind (arith, common_steps) in
-    let at : c.standing.result ≡ standing 36 (contents b) (site_of c.args.call) = grind (arith, common_steps) in
-    rw (p.1, p.2) (refused_standing (setup b) (contents b) c.args.call _ known c.standing.result at c.in_ok-allow_terms.ensures c.in_err-contradiction.ensures)
+    let at : standing_by (starting c.in_ok-site.site.now) 36 ≡ standing 36 (contents b) (site_of c.args.call) = grind (arith, common_steps) in
+    rw (p.1, p.2) (refused_standing (setup b) (contents b) c.args.call _ known (standing_by (starting c.in_ok-site.site.now) 36) at c.in_ok-allow_terms.ensures c.in_err-allow.ensures)
 
 pub returns-in_ok-try_from-in-Enter : goal.returns-in_ok-try_from-in-Enter
 returns-in_ok-try_from-in-Enter c =

@@ -13,7 +13,7 @@ loop-t-init g c =
 pub loop-t-preserved : goal.loop-t-preserved
 loop-t-preserved g c =
     let w = g.S.ProfileSource.weighs c.args.self.now.source.now c.args.self.now.sub_profile in
-    let n = g.S.ProfileSource.covers c.args.self.now.source.now in
+    let n = c.args.self.now.half_hours in
     let e = c.args.sharing.energy in let t = c.loop-t.t in
     let here = c.loop-t.invariant in
     let f = c.next_figure.ensures in
@@ -29,7 +29,7 @@ loop-t-preserved g c =
 pub returns : goal.returns
 returns g c =
     let w = g.S.ProfileSource.weighs c.args.self.now.source.now c.args.self.now.sub_profile in
-    let n = g.S.ProfileSource.covers c.args.self.now.source.now in
+    let n = c.args.self.now.half_hours in
     let e = c.args.sharing.energy in let t = c.loop-t.t in
     let drawn = c.loop-t.invariant.drawn in
     record {

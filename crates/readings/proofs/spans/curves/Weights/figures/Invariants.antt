@@ -10,5 +10,5 @@ invariant-loop-t g l =
       energy : l.sharing.energy ≡ l.fn.sharing.energy;
       all : l.sharing.all ≡ l.fn.sharing.all;
       behind : l.sharing.behind ≡ before w l.t;
-      drawn : vec_items l.curve ≡ map (figure l.fn.sharing.energy w (g.S.ProfileSource.covers l.self.source.now)) (range_with_len 0 l.t);
+      drawn : vec_items l.curve ≡ map (figure l.fn.sharing.energy w l.self.half_hours) (range_with_len 0 l.t);
     }
