@@ -37,7 +37,7 @@ fn contradiction(standing: Standing, call: Call) -> Result<(), Refusal>
 
 impl Site {
     // What is asked of how the site stands, by the calls for which that matters: for the others it is not looked up.
-    fn allow(&self, call: Call) -> Result<(), Refusal>
+    fn allow_standing(&self, call: Call) -> Result<(), Refusal>
         ensures { answered result ≡ first ((7, opened_running (standing_by (starting self.now) 36) call) ∷ (8, not_served (standing_by (starting self.now) 36) call) ∷ (9, unfit_day (standing_by (starting self.now) 36) call) ∷ []) }
     {
         match call {
@@ -100,7 +100,7 @@ impl Book {
     {
         let site = self.site(call.site()).ok_or(Refusal::UnknownSite)?;
         self.allow_terms(call)?;
-        site.allow(call)?;
+        site.allow_standing(call)?;
         match call {
             Call::Correct { day, .. } if site.situations.at(day).is_none() => Err(
                 Refusal::NoSituation,

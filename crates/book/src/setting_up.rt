@@ -23,7 +23,8 @@ fn is_within_bounds(set_up: SetUp) -> bool
 fn empty_sites(heap: Global, count: u16) -> Result<Vec<Site>, AllocError>
     ensures { IfOk result (λ v. (vec_len v ≡ count) × AllEmpty v.items) }
 {
-    // Room for so many and no more, which `collect` does not give; of what `extend` adds, what each site is stays open.
+    // Room for so many and no more, which `collect` does not give; of what `extend` adds, what each
+    // site is stays open in the proof.
     let mut sites = Vec::with_capacity(heap, usize::from(count))?;
     for _ in 0..count {
         sites.push(Site::new())?;

@@ -78,6 +78,7 @@ impl Site {
             (Standing::Running(start) | Standing::Ended { start, .. }, Call::End { day, .. }) =>
                 self.situations.close(start, day),
             (_, Call::Correct { day, terms, .. }) => self.situations.correct(day, terms),
+            // a call of the indexes, which changes no situation
             (_, Call::Enter { .. } | Call::Strike { .. }) => {}
             _ => unreachable!(),
         }

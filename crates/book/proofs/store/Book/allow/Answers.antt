@@ -42,13 +42,13 @@ returns-in_err-allow_terms c =
     let known : site_of c.args.call < vec_len c.args.self.now.sites = grind (arith, common_steps) in
     rw (p.1, p.2) (refused_terms (setup c.args.self.now) (contents c.args.self.now) c.args.call _ known c.in_err-allow_terms.ensures)
 
-pub returns-in_err-allow : goal.returns-in_err-allow
-returns-in_err-allow c =
+pub returns-in_err-allow_standing : goal.returns-in_err-allow_standing
+returns-in_err-allow_standing c =
     let b = c.args.self.now in
-    let p = err_from_is_err_and c.from_residual-in_err-allow.result c.from_residual-in_err-allow.ensures.1 in
+    let p = err_from_is_err_and c.from_residual-in_err-allow_standing.result c.from_residual-in_err-allow_standing.ensures.1 in
     let known : site_of c.args.call < vec_len b.sites = grind (arith, common_steps) in
     let at : standing_by (starting c.in_ok-site.site.now) 36 ≡ standing 36 (contents b) (site_of c.args.call) = grind (arith, common_steps) in
-    rw (p.1, p.2) (refused_standing (setup b) (contents b) c.args.call _ known (standing_by (starting c.in_ok-site.site.now) 36) at c.in_ok-allow_terms.ensures c.in_err-allow.ensures)
+    rw (p.1, p.2) (refused_standing (setup b) (contents b) c.args.call _ known (standing_by (starting c.in_ok-site.site.now) 36) at c.in_ok-allow_terms.ensures c.in_err-allow_standing.ensures)
 
 pub returns-in_ok-try_from-in-Enter : goal.returns-in_ok-try_from-in-Enter
 returns-in_ok-try_from-in-Enter c =

@@ -1,6 +1,7 @@
-use Rattle.std.proofs.Common.{◌≡◌, ◌∙◌, Err, None, refl, arith}
+use Rattle.std.proofs.Common.{◌≡◌, Err, None, arith}
 use Rattle.std.proofs.lemmas.Grind.{common_steps}
 use Rattle.std.proofs.lemmas.Result.{err_from_is_err_and}
+use Rattle.book_rules.specs.Refusing.{Rules}
 use Rattle.book_rules.specs.Tests.{first, tests}
 use Rattle.book.specs.Books.{setup, contents, answered}
 use Rattle.book.proofs.Ruled.{by_tests, made}
@@ -11,16 +12,17 @@ returns-in_err-allow c =
     let b = c.args.self.now in
     let p = err_from_is_err_and c.from_residual.result c.from_residual.ensures.1 in
     let found : answered {X = Unit {0}} (Err c.in_err-allow.field-0.0) ≡ first (tests 36 (setup b) (contents b) c.args.call) = grind (arith, common_steps) in
-    rw (p.1, p.2) (made b b c.args.call (Err c.in_err-allow.field-0.0) refl (by_tests b c.args.call _ found, refl))
+    rw (p.1, p.2) (made b _ c.args.call (Err c.in_err-allow.field-0.0) (grind (arith, common_steps)) (by_tests b c.args.call _ found, grind (arith, common_steps)))
 
 pub act-requires : goal.act-requires
 act-requires c =
     let b = c.args.self.now in
     let found : None ≡ first (tests 36 (setup b) (contents b) c.args.call) = grind (arith, common_steps) in
-    by_tests b c.args.call None found
+    let allowed : Rules (setup b) (contents b) c.args.call None = by_tests b c.args.call None found in
+    grind (arith, common_steps)
 
 pub returns : goal.returns
 returns c =
     let b = c.args.self.now in
     let found : None ≡ first (tests 36 (setup b) (contents b) c.args.call) = grind (arith, common_steps) in
-    made b c.act.new.self c.args.call _ c.act.ensures.same (by_tests b c.args.call None found, c.act.ensures.acts)
+    made b c.act.new.self c.args.call _ (grind (arith, common_steps)) (by_tests b c.args.call None found, grind (arith, common_steps))
